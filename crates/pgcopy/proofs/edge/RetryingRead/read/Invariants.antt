@@ -1,0 +1,7 @@
+use Rattle.std.proofs.Common.{◌≡◌, length}
+use Rattle.std.specs.Io.KnownBytes.{Keeps}
+use Rattle.pgcopy.proofs.edge.RetryingRead.read.Given as goal
+
+-- a read that was interrupted took nothing
+abbrev pub invariant-loop : goal.invariant-loop
+invariant-loop g l = (length l.buf ≡ length l.initial.buf) × Keeps (g.R.Read.remaining l.initial.self.inner) (g.R.Read.remaining l.self.inner)

@@ -1,0 +1,24 @@
+//! Copies a stream of rows of given column types, as PostgreSQL's `COPY .. (FORMAT binary)` has it, from standard
+//! input to standard output, in its canonical form. A line on standard error and the exit status tell what came of it.
+#![tactic(auto)]
+
+mod edge;
+mod report;
+mod run;
+#[cfg(test)]
+mod tests;
+mod words;
+
+use std::process::ExitCode;
+
+fn main(rt: HostRuntime) -> ExitCode {
+    let ended = match edge::words(&rt) {
+        Ok(words) => edge::copy(rt.alloc(), &words, rt.stdin(), rt.stdout(), rt.stderr()),
+        Err(error) => Err(error),
+    };
+    let status = match ended {
+        Ok(status) => status,
+        Err(error) => edge::explain(&error, rt.stderr()),
+    };
+    ExitCode::from(status.code())
+}

@@ -1,0 +1,130 @@
+use crate::report::Status;
+use crate::run::run;
+use pgw_wire::{MemorySink, MemorySource};
+use std::alloc::{AllocError, Global};
+
+// a stream of no rows
+const EMPTY: &[u8] = b"PGCOPY\n\xff\r\n\0\0\0\0\0\0\0\0\0\xff\xff";
+
+// a stream of one row, the number 42
+const ONE_ROW: &[u8] = b"PGCOPY\n\xff\r\n\0\0\0\0\0\0\0\0\0\0\x01\0\0\0\x04\0\0\0\x2a\xff\xff";
+
+/// What a run gave and left.
+#[derive(Drop)]
+struct Ended {
+    status: Status,
+    output: MemorySink,
+    line: MemorySink,
+    taken: usize,
+}
+
+/// Runs on words and input in memory. The reads give at most as many bytes as `cuts` says, and those with the numbers
+/// in `read_fails` fail, as do the sink's calls with the numbers in `write_fails`.
+fn run_on(
+    alloc: Global,
+    words: &[&str],
+    input: &[u8],
+    cuts: &[usize],
+    read_fails: &[u64],
+    write_fails: &[u64],
+) -> Result<Ended, AllocError> {
+    let mut texts = Vec::new(alloc);
+    for word in words {
+        texts.push(String::from_str(alloc, word)?)?;
+    }
+    let bytes = Vec::from_slice(alloc, input)?;
+    let cuts = Vec::from_slice(alloc, cuts)?;
+    let read_fails = Vec::from_slice(alloc, read_fails)?;
+    let write_fails = Vec::from_slice(alloc, write_fails)?;
+    let mut source = MemorySource::new(bytes, cuts, read_fails);
+    let mut output = MemorySink::new(alloc, Vec::new(alloc), write_fails);
+    let mut line = MemorySink::new(alloc, Vec::new(alloc), Vec::new(alloc));
+    let status = run(alloc, &texts, &mut source, &mut output, &mut line);
+    Ok(Ended {
+        status,
+        output,
+        line,
+        taken: source.taken(),
+    })
+}
+
+#[test]
+fn words_that_are_wrong_are_told(rt: HostRuntime) {
+    let table: [(&[&str], &[u8]); 4] = [
+        (&[], b"word 0: missing command\n"),
+        (&["copy"], b"word 1: missing type\n"),
+        (&["copy", "int9"], b"word 1: not supported yet\n"),
+        (&["cpy"], b"word 0: unknown command\n"),
+    ];
+    for (words, line) in table {
+        let ended = run_on(rt.alloc(), words, ONE_ROW, &[], &[], &[]).expect(&rt, "memory");
+        assert_eq!(rt; ended.status, Status::Words);
+        assert_eq!(rt; ended.line.gained(), line);
+        assert_eq!(rt; ended.output.gained(), b"".as_slice());
+        assert_eq!(rt; ended.taken, 0);
+    }
+}
+
+#[test]
+fn streams_are_copied(rt: HostRuntime) {
+    let surplus: &[u8] =
+        b"PGCOPY\n\xff\r\n\0\0\0\0\0\0\0\0\0\0\x03\0\0\0\x04\0\0\0\x2a\xff\xff\xff\xff\0\0\0\x01\xaa\xff\xff";
+    let behind: &[u8] =
+        b"PGCOPY\n\xff\r\n\0\0\0\0\0\0\0\0\0\0\x01\0\0\0\x04\0\0\0\x2a\xff\xff\xaa\xbb";
+    let table: [(&[u8], &[u8], &[u8], usize); 4] = [
+        (EMPTY, EMPTY, b"rows 0\n", 21),
+        (ONE_ROW, ONE_ROW, b"rows 1\n", 31),
+        (surplus, ONE_ROW, b"rows 1\n", 40),
+        (behind, ONE_ROW, b"rows 1\n", 31),
+    ];
+    for (input, output, line, taken) in table {
+        let ended = run_on(rt.alloc(), &["copy", "int4"], input, &[], &[], &[]).expect(
+            &rt, "memory",
+        );
+        assert_eq!(rt; ended.status, Status::Copied);
+        assert_eq!(rt; ended.line.gained(), line);
+        assert_eq!(rt; ended.output.gained(), output);
+        assert_eq!(rt; ended.taken, taken);
+    }
+}
+
+#[test]
+fn faults_outside_are_told(rt: HostRuntime) {
+    let read = run_on(rt.alloc(), &["copy", "int4"], ONE_ROW, &[], &[2], &[]).expect(&rt, "memory");
+    assert_eq!(rt; read.status, Status::Outside);
+    assert_eq!(rt; read.line.gained(), b"read fault\n".as_slice());
+    let write = run_on(rt.alloc(), &["copy", "int4"], ONE_ROW, &[], &[], &[0]).expect(
+        &rt, "memory",
+    );
+    assert_eq!(rt; write.status, Status::Outside);
+    assert_eq!(rt; write.line.gained(), b"write fault\n".as_slice());
+    assert_eq!(rt; write.output.gained(), b"".as_slice());
+    assert_eq!(rt; write.taken, 19);
+}
+
+#[test]
+fn null_in_a_column_is_refused(rt: HostRuntime) {
+    let null: &[u8] = b"PGCOPY\n\xff\r\n\0\0\0\0\0\0\0\0\0\0\x01\xff\xff\xff\xff\xff\xff";
+    let ended = run_on(rt.alloc(), &["copy", "int4"], null, &[], &[], &[]).expect(&rt, "memory");
+    assert_eq!(rt; ended.status, Status::Refused);
+    assert_eq!(rt; ended.line.gained(), b"bad stream\n".as_slice());
+}
+
+#[test]
+fn stream_cut_anywhere_is_refused(rt: HostRuntime) {
+    let whole: &[u8] =
+        b"PGCOPY\n\xff\r\n\0\0\0\0\0\0\0\0\0\0\x01\0\0\0\x04\0\0\0\x2a\0\x01\0\0\0\x04\0\0\0";
+    for len in 0..=whole.len() {
+        let ended = run_on(
+            rt.alloc(),
+            &["copy", "int4"],
+            &whole[..len],
+            &[1; 40],
+            &[],
+            &[],
+        )
+        .expect(&rt, "memory");
+        assert_eq!(rt; ended.status, Status::Refused, "at {len}");
+        assert_eq!(rt; ended.line.gained(), b"bad stream\n".as_slice(), "at {len}");
+    }
+}

@@ -1,0 +1,12 @@
+pub mod Lists
+pub mod Reading
+pub mod Numbers
+pub mod Headers
+pub mod Fields
+pub mod Columns
+pub mod RowFields
+pub mod Ended
+pub mod Streams
+pub mod Unique
+pub mod Verdict
+pub mod Worked

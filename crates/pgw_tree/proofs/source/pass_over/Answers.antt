@@ -1,0 +1,29 @@
+use Rattle.std.proofs.Common.{rules, ◌≡◌, length, refl, ap, arith, length-append}
+use Rattle.std.proofs.lemmas.List.{length-take-le}
+use Rattle.pgw_wire.proofs.Taking.{took_then, took_weaker, no_front_then, no_front_begun}
+use Rattle.pgw_tree.proofs.Lists.{split_behind, begins_front}
+use Rattle.pgw_tree.proofs.Reading.{exit, reads_later, reads_done}
+use Rattle.pgw_tree.proofs.source.pass_over.Goals as goal
+
+pub returns-in_err-fill-clause-reads : goal.returns-in_err-fill-clause-reads
+returns-in_err-fill-clause-reads g c =
+    let next = length-take-le c.min-next.result c.loop-left.chunk (omega (arith, c.loop-left.invariant.chunk)) in
+    reads_later _ _ (exit c.from_residual.result _ c.from_residual.ensures.1) c.loop-left.invariant.took c.in_err-fill.ensures.reads (λ f. omega (arith, f, c.loop-left.invariant.faults)) (λ w. w)
+    (λ none. no_front_then {Q = λ front. length front ≡ c.loop-left.left} c.loop-left.invariant.took
+    (no_front_begun none (λ front all. begins_front _ front (omega (arith, all, next))))
+    (λ x behind front rest so_far all e. split_behind x behind front rest c.loop-left.left (omega (arith, so_far, all)) e))
+
+pub loop-left-preserved : goal.loop-left-preserved
+loop-left-preserved g c =
+    let next = length-take-le c.min-next.result c.loop-left.chunk (omega (arith, c.loop-left.invariant.chunk)) in
+    record {
+      chunk = search rules;
+      within = search rules;
+      took = took_then c.loop-left.invariant.took (c.in_ok-fill.ensures.reads.ok _ refl) (λ x y so_far is. omega (arith, so_far, ap length is, next, c.fill.auto.buf, length-append x y));
+      faults = search rules;
+      origin = search rules;
+    }
+
+pub returns-clause-reads : goal.returns-clause-reads
+returns-clause-reads g c =
+    reads_done _ _ _ (took_weaker c.loop-left.invariant.took (λ x e. omega (arith, e)))

@@ -1,0 +1,4 @@
+pub mod Cell
+pub mod Memory
+pub mod Outside
+pub mod Room

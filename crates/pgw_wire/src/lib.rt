@@ -1,0 +1,23 @@
+//! What PostgreSQL's binary values and COPY streams are made of, below any type: big-endian numbers and pieces
+//! cut from bytes, cells, a buffer that lengths are patched in, and the sources and sinks that bytes come from
+//! and go to.
+#![tactic(auto)]
+
+mod buffer;
+mod cell;
+mod cuts;
+mod error;
+mod io;
+mod memory;
+mod outside;
+
+pub use buffer::ByteBuffer;
+pub use cell::RawCell;
+pub use cuts::{take_i16, take_i32, take_piece, take_u16, take_u32};
+pub use error::{Failed, NoMemory};
+pub use io::{ReadSource, WriteSink};
+pub use memory::{MemorySink, MemorySource};
+pub use outside::{Sink, Source};
+
+#[cfg(test)]
+mod tests;

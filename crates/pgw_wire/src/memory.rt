@@ -1,0 +1,186 @@
+ghost use Rattle.std.specs.Prelude.{◌≡◌, ◌+◌, ◌-◌, ◌^◌, ◌≤◌, ◌==◌, ◌++◌, [], true, false, Some, None, Ok, Err, IfOk, OnOk, OnErr, length, min, take, drop, if◌then◌else◌};
+ghost use Rattle.pgw_wire.specs.Memory.{course_of, is_failing, limit_of, succeeded, failed, left_of, given, accepted};
+ghost use Rattle.pgw_wire.specs.Outside.{settled_after};
+
+use crate::{Failed, Sink, Source};
+use course::Course;
+use std::alloc::Global;
+use std::marker::Model;
+
+mod course;
+
+/// A source of bytes in memory, for tests: which of its calls fail and how it cuts its answers is given.
+#[derive(Drop)]
+pub struct MemorySource {
+    bytes: Vec<u8>,
+    taken: usize,
+    course: Course,
+}
+
+impl Model for MemorySource {
+    ghost use Rattle.std.specs.Prelude.{◌≤◌, vec_len};
+    ghost use Rattle.pgw_wire.specs.Memory.{Reading};
+
+    ghost Value = { Reading };
+
+    ghost view = { λ s. record { bytes = s.bytes.items; taken = s.taken; course = s.course } };
+
+    ghost invariant = { λ s. s.taken ≤ vec_len s.bytes };
+}
+
+impl MemorySource {
+    /// A source of these bytes. The read with number k, counted from 0, fails exactly where k is in `fails`. The
+    /// read that is the i-th to succeed gives at most `cuts[i]` bytes, where 0 counts as 1, and behind the list as
+    /// many as there is room for.
+    pub fn new(bytes: Vec<u8>, cuts: Vec<usize>, fails: Vec<u64>) -> MemorySource
+        ensures { result ≡ record { bytes = bytes.items; taken = 0; course = course_of cuts.items fails.items } }
+    {
+        MemorySource {
+            bytes,
+            taken: 0,
+            course: Course::new(cuts, fails),
+        }
+    }
+
+    /// How many bytes were taken.
+    pub fn taken(&self) -> usize
+        ensures { result ≡ self.now.taken }
+    {
+        self.taken
+    }
+}
+
+/// Copies as many of the first bytes to the front of the buffer as fit there, `limit` at most.
+#[tactic(auto, using(crate::proofs::Lists::front_copied))]
+fn copy_front(bytes: &[u8], buf: &mut [u8], limit: usize) -> usize
+    ensures count { result ≡ min (min (length bytes.now) (length buf.old)) limit }
+    ensures filled { buf.new ≡ take result bytes.now ++ drop result buf.old }
+    ensures front { take result buf.new ≡ take result bytes.now }
+{
+    let len = bytes.len().min(buf.len()).min(limit);
+    buf[..len].copy_from_slice(&bytes[..len]);
+    len
+}
+
+impl Source for MemorySource {
+    ghost left = { λ s. Some (left_of s) };
+
+    ghost fault_count = { λ s. s.course.faults };
+
+    ghost origin = { λ _. tt };
+
+    #[tactic(auto, using(std::proofs::lemmas::Grind::common_steps, crate::proofs::Lists::drop_more))]
+    fn read(&mut self, buf: &mut [u8]) -> Result<usize, Failed>
+        ensures answer { result ≡ (if is_failing self.old.course then Err (record {}) else Ok (given (length buf.old) self.old)) }
+        ensures ok { IfOk result (λ n. self.new ≡ record { bytes = self.old.bytes; taken = self.old.taken + n; course = succeeded self.old.course }) }
+        ensures filled { IfOk result (λ n. buf.new ≡ take n (left_of self.old) ++ drop n buf.old) }
+        ensures err { OnErr result (self.new ≡ record self.old { course = failed self.old.course }) }
+        ensures buffer_kept { OnErr result (buf.new ≡ buf.old) }
+        ensures taken { IfOk result (λ n. left_of self.old ≡ take n buf.new ++ left_of self.new) }
+        ensures faults { self.old.course.faults ≤ self.new.course.faults }
+    {
+        let limit = self.course.begin()?;
+        let len = copy_front(&self.bytes[self.taken..], buf, limit);
+        self.taken += len;
+        self.course.succeed();
+        Ok(len)
+    }
+
+    fn faults(&self) -> u64 {
+        self.course.faults()
+    }
+}
+
+/// A sink that keeps what it gains in memory, for tests: which of its calls fail and how many bytes each write
+/// takes is given.
+#[derive(Drop)]
+pub struct MemorySink {
+    gained: Vec<u8>,
+    settled: bool,
+    course: Course,
+}
+
+impl Model for MemorySink {
+    ghost use Rattle.pgw_wire.specs.Memory.{Writing};
+
+    ghost Value = { Writing };
+
+    ghost view = { λ s. record { gained = s.gained.items; settled = s.settled; course = s.course } };
+}
+
+impl MemorySink {
+    /// A sink that has gained nothing and is settled. Its call with number k, counted from 0 over writes and
+    /// flushes, fails exactly where k is in `fails`. The call that is the i-th to succeed takes, where it is a
+    /// write, at most `cuts[i]` bytes, where 0 counts as 1, and behind the list the whole piece.
+    pub fn new(alloc: Global, cuts: Vec<usize>, fails: Vec<u64>) -> MemorySink
+        ensures { result ≡ record { gained = []; settled = true; course = course_of cuts.items fails.items } }
+    {
+        MemorySink {
+            gained: Vec::new(alloc),
+            settled: true,
+            course: Course::new(cuts, fails),
+        }
+    }
+
+    /// All bytes that it has gained.
+    pub fn gained(&self) -> &[u8]
+        ensures { result.now ≡ self.now.gained }
+    {
+        &self.gained
+    }
+}
+
+impl Sink for MemorySink {
+    ghost gained = { λ s. Some s.gained };
+
+    ghost settled = { λ s. Some s.settled };
+
+    ghost fault_count = { λ s. s.course.faults };
+
+    ghost origin = { λ _. tt };
+
+    /// Where memory for the bytes is refused, that is a fault of this sink.
+    fn write(&mut self, piece: &[u8]) -> Result<usize, Failed>
+        ensures answer { IfOk result (λ n. n ≡ accepted piece.now self.old) }
+        ensures failing { is_failing self.old.course ≡ true → result ≡ Err (record {}) }
+        ensures ok { IfOk result (λ n. self.new ≡ record {
+          gained = self.old.gained ++ take n piece.now;
+          settled = (if n == 0 then self.old.settled else false);
+          course = succeeded self.old.course;
+        }) }
+        ensures err { OnErr result (self.new ≡ record self.old { course = failed self.old.course }) }
+        ensures faults { self.old.course.faults ≤ self.new.course.faults }
+    {
+        let limit = self.course.begin()?;
+        let len = piece.len().min(limit);
+        if self.gained.extend_from_slice(&piece[..len]).is_err() {
+            self.course.fail();
+            return Err(Failed);
+        }
+        self.course.succeed();
+        if len > 0 {
+            self.settled = false;
+        }
+        Ok(len)
+    }
+
+    fn flush(&mut self) -> Result<(), Failed>
+        ensures answer { result ≡ (if is_failing self.old.course then Err (record {}) else Ok tt) }
+        ensures ok { OnOk result (self.new ≡ record {
+          gained = self.old.gained;
+          settled = true;
+          course = succeeded self.old.course;
+        }) }
+        ensures err { OnErr result (self.new ≡ record self.old { course = failed self.old.course }) }
+        ensures faults { self.old.course.faults ≤ self.new.course.faults }
+    {
+        self.course.begin()?;
+        self.course.succeed();
+        self.settled = true;
+        Ok(())
+    }
+
+    fn faults(&self) -> u64 {
+        self.course.faults()
+    }
+}

@@ -1,0 +1,80 @@
+ghost use Rattle.std.specs.Prelude.{◌≡◌, ℕ, ◌+◌, ◌<◌, ◌≤◌, Bool, true, List, length, take, drop, Option, option_map, Result, IfOk, OnOk, OnErr};
+ghost use Rattle.std.specs.Io.KnownBytes.{Appends, Consumes, IsAtEnd, Keeps};
+ghost use Rattle.pgw_wire.specs.Outside.{HasFailed, settled_after};
+
+use crate::Failed;
+
+/// Where bytes come from.
+pub trait Source {
+    /// The bytes still to come, where it tells them.
+    ghost left: { Self → Option (List ℕ) };
+
+    /// How many of its calls failed. The count stops at the largest `u64`.
+    ghost fault_count: { Self → ℕ };
+
+    /// What says on which object it stands: for a wrapper over an object that was lent to it, which object, what
+    /// that had left and its count when the wrapper was made. Where it stands on nothing else it says nothing.
+    ghost Origin: { Type 0 } = { Unit {0} };
+
+    ghost origin: { Self → Origin };
+
+    /// Reads some of the bytes to the front of `buf`, and answers how many. It answers 0 only at the end or where
+    /// `buf` is empty.
+    fn read(&mut self, buf: &mut [u8]) -> Result<usize, Failed>
+        ensures within { IfOk result (λ n. n ≤ length buf.old) }
+        ensures taken { IfOk result (λ n. Consumes (left self.old) (left self.new) (take n buf.new)) }
+        ensures rest { IfOk result (λ n. drop n buf.new ≡ drop n buf.old) }
+        ensures end { result ≡ Ok 0 → 0 < length buf.old → IsAtEnd (left self.new) }
+        ensures err { OnErr result (Keeps (left self.old) (left self.new)) }
+        ensures buffer_kept { OnErr result (buf.new ≡ buf.old) }
+        ensures failed { OnErr result (HasFailed (fault_count self.old) (fault_count self.new)) }
+        ensures faults { fault_count self.old ≤ fault_count self.new }
+        ensures origin { origin self.new ≡ origin self.old };
+
+    /// How many calls failed so far.
+    fn faults(&self) -> u64
+        ensures { result ≡ fault_count self.now };
+}
+
+/// Where bytes go.
+pub trait Sink {
+    /// The bytes that it got, where it tells them.
+    ghost gained: { Self → Option (List ℕ) };
+
+    /// Whether all that it got is settled, where it tells that: true behind a flush, false behind a byte.
+    ghost settled: { Self → Option Bool };
+
+    /// How many of its calls failed. The count stops at the largest `u64`.
+    ghost fault_count: { Self → ℕ };
+
+    /// As for a source, with what the lent object had gained.
+    ghost Origin: { Type 0 } = { Unit {0} };
+
+    ghost origin: { Self → Origin };
+
+    /// Takes the front of the piece, one byte at least, and answers how many bytes it took. Of an empty piece it
+    /// takes none.
+    fn write(&mut self, piece: &[u8]) -> Result<usize, Failed>
+        ensures within { IfOk result (λ n. n ≤ length piece.now) }
+        ensures progress { 0 < length piece.now → IfOk result (λ n. 0 < n) }
+        ensures gained { IfOk result (λ n. Appends (gained self.old) (gained self.new) (take n piece.now)) }
+        ensures settled { IfOk result (λ n. settled self.new ≡ settled_after n (settled self.old)) }
+        ensures err { OnErr result (Keeps (gained self.old) (gained self.new)) }
+        ensures unsettled { OnErr result (settled self.new ≡ settled self.old) }
+        ensures failed { OnErr result (HasFailed (fault_count self.old) (fault_count self.new)) }
+        ensures faults { fault_count self.old ≤ fault_count self.new }
+        ensures origin { origin self.new ≡ origin self.old };
+
+    /// Settles what it got.
+    fn flush(&mut self) -> Result<(), Failed>
+        ensures gained { Keeps (gained self.old) (gained self.new) }
+        ensures ok { OnOk result (settled self.new ≡ option_map (λ _. true) (settled self.old)) }
+        ensures err { OnErr result (settled self.new ≡ settled self.old) }
+        ensures failed { OnErr result (HasFailed (fault_count self.old) (fault_count self.new)) }
+        ensures faults { fault_count self.old ≤ fault_count self.new }
+        ensures origin { origin self.new ≡ origin self.old };
+
+    /// How many calls failed so far.
+    fn faults(&self) -> u64
+        ensures { result ≡ fault_count self.now };
+}

@@ -1,0 +1,139 @@
+use super::*;
+use std::alloc::Global;
+use std::io;
+use std::io::{Read, Write};
+use std::test::Fail;
+
+#[test]
+fn numbers_and_pieces_are_cut_from_the_front(rt: HostRuntime) {
+    let bytes = b"\x80\x01\xff\xff\xff\xfe\x07".as_slice();
+    let behind_two = b"\xff\xff\xff\xfe\x07".as_slice();
+    let behind_four = b"\xff\xfe\x07".as_slice();
+    assert_eq!(rt; take_u16(bytes), Some((0x8001, behind_two)));
+    assert_eq!(rt; take_i16(bytes), Some((-0x7fff, behind_two)));
+    assert_eq!(rt; take_u32(bytes), Some((0x8001_ffff, behind_four)));
+    assert_eq!(rt; take_i32(behind_two), Some((-2, b"\x07".as_slice())));
+    assert_eq!(rt;
+        take_piece(bytes, 6),
+        Some((&bytes[..6], b"\x07".as_slice()))
+    );
+    assert_eq!(rt; take_u16(b"\x80"), None);
+    assert_eq!(rt; take_i32(b"\x80\x01\xff"), None);
+    assert_eq!(rt; take_piece(bytes, 8), None);
+}
+
+#[test]
+fn a_buffer_grows_and_is_patched(rt: HostRuntime) -> Result<(), Fail> {
+    let mut buffer = ByteBuffer::new(rt.alloc());
+    buffer.push_all(b"\x01\x02")?;
+    buffer.push_all(b"\x03\x04\x05\x06")?;
+    assert_eq!(rt; buffer.len(), 6);
+    buffer.patch_u32(1, 0xa0b0_c0d0);
+    assert_eq!(rt; buffer.as_bytes(), b"\x01\xa0\xb0\xc0\xd0\x06".as_slice());
+    buffer.clear();
+    assert_eq!(rt; buffer.len(), 0);
+    Ok(())
+}
+
+// Calls 1 and 3 fail; the successful ones give at most 2, 1 (for 0) and then all bytes.
+#[test]
+fn a_memory_source_cuts_and_fails_as_told(rt: HostRuntime) -> Result<(), Fail> {
+    let alloc = rt.alloc();
+    let bytes = b"abcdefg".to_vec(alloc)?;
+    let mut source = MemorySource::new(bytes, [2, 0].to_vec(alloc)?, [1, 3].to_vec(alloc)?);
+    let mut buf = [0; 5];
+    for (answer, front) in [
+        (Ok(2), b"ab\0\0\0"),
+        (Err(Failed), b"ab\0\0\0"),
+        (Ok(1), b"cb\0\0\0"),
+        (Err(Failed), b"cb\0\0\0"),
+        (Ok(4), b"defg\0"),
+        (Ok(0), b"defg\0"),
+    ] {
+        assert_eq!(rt; source.read(&mut buf), answer);
+        assert_eq!(rt; buf.as_slice(), front.as_slice());
+    }
+    assert_eq!(rt; source.taken(), 7);
+    assert_eq!(rt; source.faults(), 2);
+    Ok(())
+}
+
+#[test]
+fn a_memory_sink_cuts_and_fails_as_told(rt: HostRuntime) -> Result<(), Fail> {
+    let alloc = rt.alloc();
+    let mut sink = MemorySink::new(alloc, [2, 9, 0].to_vec(alloc)?, [1].to_vec(alloc)?);
+    assert_eq!(rt; sink.write(b"abc"), Ok(2));
+    assert_eq!(rt; sink.write(b"c"), Err(Failed));
+    assert_eq!(rt; sink.flush(), Ok(()));
+    assert_eq!(rt; sink.write(b"cde"), Ok(1));
+    assert_eq!(rt; sink.write(b"de"), Ok(2));
+    assert_eq!(rt; sink.write(b""), Ok(0));
+    assert_eq!(rt; sink.gained(), b"abcde".as_slice());
+    assert_eq!(rt; sink.faults(), 1);
+    Ok(())
+}
+
+/// A reader that writes behind the bytes that it counts and a writer that takes none, and both fail at last.
+#[derive(Drop)]
+struct Odd {
+    calls: u8,
+}
+
+impl Read for Odd {
+    fn read(&mut self, buf: &mut [u8]) -> io::Result<usize> {
+        self.calls = self.calls.saturating_add(1);
+        if self.calls > 1 || buf.len() < 2 {
+            return Err(io::Error::from(io::ErrorKind::Other));
+        }
+        buf[0] = 7;
+        buf[1] = 8;
+        Ok(1)
+    }
+}
+
+impl Write for Odd {
+    fn write(&mut self, _buf: &[u8]) -> io::Result<usize> {
+        self.calls = self.calls.saturating_add(1);
+        if self.calls > 1 {
+            return Err(io::Error::from(io::ErrorKind::Other));
+        }
+        Ok(0)
+    }
+
+    fn flush(&mut self) -> io::Result<()> {
+        Err(io::Error::from(io::ErrorKind::Other))
+    }
+}
+
+#[test]
+fn a_reader_is_a_source(rt: HostRuntime) {
+    let mut source = ReadSource::new(b"xyz".as_slice());
+    let mut buf = [0; 5];
+    assert_eq!(rt; source.read(&mut buf), Ok(3));
+    assert_eq!(rt; buf, *b"xyz\0\0");
+    assert_eq!(rt; source.read(&mut buf), Ok(0));
+    assert_eq!(rt; source.faults(), 0);
+
+    let mut source = ReadSource::new(Odd { calls: 0 });
+    let mut buf = [0; 2];
+    assert_eq!(rt; source.read(&mut buf), Ok(1));
+    assert_eq!(rt; buf, [7, 0]);
+    assert_eq!(rt; source.read(&mut buf), Err(Failed));
+    assert_eq!(rt; source.faults(), 1);
+}
+
+#[test]
+fn a_writer_is_a_sink(rt: HostRuntime) {
+    let alloc: Global = rt.alloc();
+    let mut sink = WriteSink::new(Vec::<u8>::new(alloc));
+    assert_eq!(rt; sink.write(b"ab"), Ok(2));
+    assert_eq!(rt; sink.write(b""), Ok(0));
+    assert_eq!(rt; sink.flush(), Ok(()));
+    assert_eq!(rt; sink.faults(), 0);
+
+    let mut sink = WriteSink::new(Odd { calls: 0 });
+    assert_eq!(rt; sink.write(b"a"), Err(Failed));
+    assert_eq!(rt; sink.write(b""), Err(Failed));
+    assert_eq!(rt; sink.flush(), Err(Failed));
+    assert_eq!(rt; sink.faults(), 3);
+}
