@@ -66,6 +66,20 @@ fn words_that_are_wrong_are_told(rt: HostRuntime) {
 }
 
 #[test]
+fn too_many_columns_are_told(rt: HostRuntime) {
+    let mut words = ["int4"; 32769];
+    words[0] = "copy";
+    let most = run_on(rt.alloc(), &words[..32768], EMPTY, &[], &[], &[]).expect(&rt, "memory");
+    assert_eq!(rt; most.status, Status::Copied);
+    let ended = run_on(rt.alloc(), &words, EMPTY, &[], &[], &[]).expect(&rt, "memory");
+    assert_eq!(rt; ended.status, Status::Words);
+    assert_eq!(rt;
+        ended.line.gained(),
+        b"word 32769: schema fault 2\n".as_slice()
+    );
+}
+
+#[test]
 fn streams_are_copied(rt: HostRuntime) {
     let surplus: &[u8] =
         b"PGCOPY\n\xff\r\n\0\0\0\0\0\0\0\0\0\0\x03\0\0\0\x04\0\0\0\x2a\xff\xff\xff\xff\0\0\0\x01\xaa\xff\xff";
@@ -88,18 +102,69 @@ fn streams_are_copied(rt: HostRuntime) {
     }
 }
 
+// The reads are the header, then of each row its count, a length and four bytes; the sink's calls are the header, each
+// row, the end and the flush.
 #[test]
 fn faults_outside_are_told(rt: HostRuntime) {
-    let read = run_on(rt.alloc(), &["copy", "int4"], ONE_ROW, &[], &[2], &[]).expect(&rt, "memory");
-    assert_eq!(rt; read.status, Status::Outside);
-    assert_eq!(rt; read.line.gained(), b"read fault\n".as_slice());
-    let write = run_on(rt.alloc(), &["copy", "int4"], ONE_ROW, &[], &[], &[0]).expect(
+    let rows: &[u8] =
+        b"PGCOPY\n\xff\r\n\0\0\0\0\0\0\0\0\0\0\x01\0\0\0\x04\0\0\0\x2a\0\x01\0\0\0\x04\0\0\0\x2b\xff\xff";
+    let table: [(u64, &[u8], usize); 4] = [
+        (0, b"", 0),
+        (1, &rows[..19], 19),
+        (2, &rows[..19], 21),
+        (5, &rows[..29], 31),
+    ];
+    for (call, output, taken) in table {
+        let ended = run_on(rt.alloc(), &["copy", "int4"], rows, &[], &[call], &[]).expect(
+            &rt, "memory",
+        );
+        assert_eq!(rt; ended.status, Status::Outside, "read {call}");
+        assert_eq!(rt;
+            ended.line.gained(),
+            b"read fault\n".as_slice(),
+            "read {call}"
+        );
+        assert_eq!(rt; ended.output.gained(), output, "read {call}");
+        assert_eq!(rt; ended.taken, taken, "read {call}");
+    }
+    let table: [(u64, &[u8], usize); 4] = [
+        (0, b"", 19),
+        (2, &rows[..29], 39),
+        (3, &rows[..39], 41),
+        (4, rows, 41),
+    ];
+    for (call, output, taken) in table {
+        let ended = run_on(rt.alloc(), &["copy", "int4"], rows, &[], &[], &[call]).expect(
+            &rt, "memory",
+        );
+        assert_eq!(rt; ended.status, Status::Outside, "write {call}");
+        assert_eq!(rt;
+            ended.line.gained(),
+            b"write fault\n".as_slice(),
+            "write {call}"
+        );
+        assert_eq!(rt; ended.output.gained(), output, "write {call}");
+        assert_eq!(rt; ended.taken, taken, "write {call}");
+    }
+}
+
+#[test]
+fn no_call_is_made_that_is_not_needed(rt: HostRuntime) {
+    let flushed = run_on(rt.alloc(), &["copy", "int4"], ONE_ROW, &[], &[5], &[4]).expect(
         &rt, "memory",
     );
-    assert_eq!(rt; write.status, Status::Outside);
-    assert_eq!(rt; write.line.gained(), b"write fault\n".as_slice());
-    assert_eq!(rt; write.output.gained(), b"".as_slice());
-    assert_eq!(rt; write.taken, 19);
+    assert_eq!(rt; flushed.status, Status::Copied);
+    let short: &[u8] = b"PGCOPY\n\xff\r\n\0\0\0\0\0\0\0\0\0\0\x02\0\0\0\x04\0\0\0\x2a";
+    let null: &[u8] = b"PGCOPY\n\xff\r\n\0\0\0\0\0\0\0\0\0\0\x01\xff\xff\xff\xff";
+    let table: [(&[&str], &[u8], u64, usize); 2] = [
+        (&["copy", "int4", "int4", "int4"], short, 2, 21),
+        (&["copy", "int4"], null, 3, 25),
+    ];
+    for (words, input, call, taken) in table {
+        let ended = run_on(rt.alloc(), words, input, &[], &[call], &[]).expect(&rt, "memory");
+        assert_eq!(rt; ended.status, Status::Refused);
+        assert_eq!(rt; ended.taken, taken);
+    }
 }
 
 #[test]

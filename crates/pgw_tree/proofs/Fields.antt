@@ -26,11 +26,6 @@ pub length_first : (cell : Cell) (field : List ℕ) → IsField cell field → I
 length_first None field h = record { word = h.0; behind = []; fits = h.2; is = h.3 ∙ sym (append-nil (to_be_bytes w32 h.0)); says = (h.1, refl) }
 length_first (Some p) field h = record { word = length p; behind = p; fits = omega (arith, h.0); is = h.1; says = (h.0, refl, refl) }
 
--- and so is a length with what it says a field
-pub field_of : (cell : Cell) (word : ℕ) (behind : List ℕ) → word < 2 ^ 32 → Says word cell behind → IsField cell (to_be_bytes w32 word ++ behind)
-field_of None word behind fits says = (word, says.0, fits, ap (λ b. to_be_bytes w32 word ++ b) says.1 ∙ append-nil (to_be_bytes w32 word))
-field_of (Some p) word behind fits says = (subst (λ (n : ℕ). n < 2 ^ 31) says.1 says.0, ap (λ n. to_be_bytes w32 n ++ behind) says.1 ∙ ap (λ b. to_be_bytes w32 (length p) ++ b) says.2)
-
 -- An int4's field is the length 4 and four bytes that spell the number.
 pub record IsInt4Field (field : List ℕ) (n : ℤ) : Type 0 where
   pub piece : List ℕ

@@ -1,5 +1,5 @@
 -- Big-endian numbers and the bytes that they are read from.
-use Rattle.std.proofs.Common.{◌≡◌, ℕ, ◌<◌, ◌≤◌, ◌^◌, List, [], ◌∷◌, ◌++◌, length, Option, None, Some, refl, sym, ap, ◌∙◌, arith, lit<, length-append, append-nil}
+use Rattle.std.proofs.Common.{◌≡◌, ℕ, ◌<◌, ◌^◌, List, [], ◌∷◌, ◌++◌, length, Option, None, Some, refl, sym, ap, ◌∙◌, arith, length-append, append-nil}
 use Rattle.std.specs.Int.{to_be_bytes, from_be_bytes, w16, w32}
 use Rattle.std.proofs.lemmas.Nat.{from_be_bytes-to_be_bytes_2, from_be_bytes-to_be_bytes_4}
 use Rattle.pgw_tree.specs.Format.{IsCount}
@@ -31,10 +31,3 @@ same_number_4 m n fm fn e = sym (from_be_bytes-to_be_bytes_4 m fm) ∙ ap (from_
 pub length-count : (c : Option ℕ) (bytes : List ℕ) → IsCount c bytes → length bytes ≡ 2
 length-count None bytes is = ap length is
 length-count (Some n) bytes is = ap length is.1
-
--- A number from 2 ^ 15 on that isn't 2 ^ 16 - 1 is no count.
-pub no_count : (n : ℕ) (c : Option ℕ) (bytes : List ℕ) → bytes ≡ to_be_bytes w16 n → n < 2 ^ 16 → 2 ^ 15 ≤ n → (n ≡ 65535 → ⊥) → IsCount c bytes → ⊥
-no_count n None bytes is fits from not_end count = not_end (same_number_2 n 65535 fits (lit< tt) (sym is ∙ count))
-no_count n (Some m) bytes is fits from not_end count =
-    let same = same_number_2 n m fits (omega (arith, count.0)) (sym is ∙ count.1) in
-    absurd (omega (arith, same, count.0))

@@ -99,8 +99,8 @@ fn copy_stream<S: Source, K: Sink>(
 /// | `WriteFault` | the sink failed |
 /// | `NoMemory` | memory for a row was asked for and refused |
 ///
-/// Tests and not clauses show that each row is written once it is read, that one row is held in memory, that the sink
-/// is flushed once, and that no read is made that is not needed.
+/// One row is held in memory. Tests and not clauses show that each row is written once it is read, that the sink is
+/// flushed once, behind the end, and that no read is made that is not needed.
 pub fn recopy_first<S: Source, K: Sink>(
     alloc: Global,
     columns: &[FirstType],

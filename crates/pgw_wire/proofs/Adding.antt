@@ -12,19 +12,10 @@ appends_then (Some xs) None c x y h k = absurd h
 appends_then (Some xs) (Some ys) None x y h k = absurd k
 appends_then (Some xs) (Some ys) (Some zs) x y h k = k ∙ ap (λ l. l ++ y) h ∙ append_assoc xs x y
 
--- where nothing was written, nothing was added
-pub appends_none : (a : Option (List ℕ)) → Appends a a []
-appends_none None = tt
-appends_none (Some xs) = sym (append-nil xs)
-
 pub appends_kept : (a b : Option (List ℕ)) → Keeps a b → Appends a b []
 appends_kept None b h = tt
 appends_kept (Some xs) None h = absurd h
 appends_kept (Some xs) (Some ys) h = h ∙ sym (append-nil xs)
-
--- No call left it as it was.
-pub settled_none : (a : Option Bool) → SettledAfter a a
-settled_none a = (0, refl)
 
 twice : (a : Option Bool) → option_map {T = Bool} {U = Bool} (λ _. false) (option_map {T = Bool} {U = Bool} (λ _. false) a) ≡ option_map (λ _. false) a
 twice None = refl
@@ -42,18 +33,6 @@ settled_then a b c (m, e) (n, f) = by_test (eqb n 0) (eqb m 0) refl refl
       f ∙ ap (λ x. cond x b (option_map (λ _. false) b)) is ∙ ap (option_map (λ _. false)) (e ∙ ap (λ x. cond x a (option_map (λ _. false) a)) is') ∙ twice a
           ∙ ap (λ x. cond x a (option_map (λ _. false) a)) (sym is),
     )
-
--- A flush settles a sink that told it before.
-pub settled_flushed : (a b c : Option Bool) → SettledAfter a b → c ≡ option_map (λ _. true) b → c ≡ option_map (λ _. true) a
-settled_flushed a b c (n, e) is = is ∙ ap (option_map (λ _. true)) e ∙ by_test (eqb n 0)
-  where
-    by_option : (o : Option Bool) → option_map (λ _. true) (option_map {T = Bool} {U = Bool} (λ _. false) o) ≡ option_map (λ _. true) o
-    by_option None = refl
-    by_option (Some b) = refl
-
-    by_test : (t : Bool) → option_map (λ _. true) (cond t a (option_map (λ _. false) a)) ≡ option_map (λ _. true) a
-    by_test true = refl
-    by_test false = by_option a
 
 -- A longer front of the piece was added.
 pub appends_more : (a b c : Option (List ℕ)) (piece : List ℕ) (sent n : ℕ) → Appends a b (take sent piece) → Appends b c (take n (drop sent piece)) → Appends a c (take (sent + n) piece)

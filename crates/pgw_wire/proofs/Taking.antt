@@ -91,6 +91,3 @@ no_front_at_end {b = b} t end clash = record {
 -- whatever was taken
 pub took_both : {a b c : Option (List ℕ)} {P Q : List ℕ → Type 0} → Took a b P → Took b c Q → Took a c (λ _. ⊤)
 took_both t u = took_then t u (λ _ _ _ _. tt)
-
-pub took_any : {a b : Option (List ℕ)} {P : List ℕ → Type 0} → Took a b P → Took a b (λ _. ⊤)
-took_any t = took_weaker t (λ _ _. tt)
