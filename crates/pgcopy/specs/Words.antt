@@ -2,7 +2,7 @@
 use Rattle.std.specs.Prelude.{ℕ, ◌+◌, ◌==◌, List, [], ◌∷◌, length, map, String, string_bytes, codes, Option, None, Some, is_none, Result, Ok, Err, nat_lt, if◌then◌else◌}
 use Rattle.std.specs.List.{filter_map, position_from}
 use Rattle.std.specs.Str.{bytes_eq}
-use Rattle.pgw_tree.specs.Tree.{Shape, int4}
+use Rattle.pgw_tree.specs.Tree.{Shape, int4, text, nullable}
 use Rattle.pgcopy.specs.declared.words.WordFault.{WordFault}
 use Rattle.pgcopy.specs.declared.words.WordFault.TheVariants.{NoCommand, UnknownCommand, NoTypes, Schema, NotYet}
 
@@ -17,7 +17,12 @@ fault_at place fault = Err (record { place = place; fault = fault })
 
 -- the column type that a word names
 abbrev pub type_of : List ℕ → Option Shape
-type_of word = if bytes_eq word (codes "int4") then Some int4 else None
+type_of word =
+    if bytes_eq word (codes "int4") then Some int4
+    else if bytes_eq word (codes "int4?") then Some (nullable int4)
+    else if bytes_eq word (codes "text") then Some text
+    else if bytes_eq word (codes "text?") then Some (nullable text)
+    else None
 
 -- the place of the first of these words that names no type, where the first of all has the given place
 abbrev pub unknown_from : ℕ → List (List ℕ) → Option ℕ

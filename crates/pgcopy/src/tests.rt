@@ -3,6 +3,9 @@ use crate::run::run;
 use pgw_wire::{MemorySink, MemorySource};
 use std::alloc::{AllocError, Global};
 
+// a header without flags and extension
+const HEADER: &[u8] = b"PGCOPY\n\xff\r\n\0\0\0\0\0\0\0\0\0";
+
 // a stream of no rows
 const EMPTY: &[u8] = b"PGCOPY\n\xff\r\n\0\0\0\0\0\0\0\0\0\xff\xff";
 
@@ -85,16 +88,29 @@ fn streams_are_copied(rt: HostRuntime) {
         b"PGCOPY\n\xff\r\n\0\0\0\0\0\0\0\0\0\0\x03\0\0\0\x04\0\0\0\x2a\xff\xff\xff\xff\0\0\0\x01\xaa\xff\xff";
     let behind: &[u8] =
         b"PGCOPY\n\xff\r\n\0\0\0\0\0\0\0\0\0\0\x01\0\0\0\x04\0\0\0\x2a\xff\xff\xaa\xbb";
-    let table: [(&[u8], &[u8], &[u8], usize); 4] = [
-        (EMPTY, EMPTY, b"rows 0\n", 21),
-        (ONE_ROW, ONE_ROW, b"rows 1\n", 31),
-        (surplus, ONE_ROW, b"rows 1\n", 40),
-        (behind, ONE_ROW, b"rows 1\n", 31),
+    let nulls: &[u8] =
+        b"PGCOPY\n\xff\r\n\0\0\0\0\0\0\0\0\0\0\x02\xff\xff\xff\xff\0\0\0\x04\0\0\0\x07\xff\xff";
+    let other_nulls: &[u8] =
+        b"PGCOPY\n\xff\r\n\0\0\0\0\0\0\0\0\0\0\x02\xff\xff\xff\xfe\0\0\0\x04\0\0\0\x07\xff\xff";
+    let texts: &[u8] =
+        b"PGCOPY\n\xff\r\n\0\0\0\0\0\0\0\0\0\0\x02\0\0\0\x02\xc3\xa9\0\0\0\0\0\x02\0\0\0\x01a\xff\xff\xff\xff\xff\xff";
+    let table: [(&[&str], &[u8], &[u8], &[u8], usize); 7] = [
+        (&["copy", "int4"], EMPTY, EMPTY, b"rows 0\n", 21),
+        (&["copy", "int4"], ONE_ROW, ONE_ROW, b"rows 1\n", 31),
+        (&["copy", "int4"], surplus, ONE_ROW, b"rows 1\n", 40),
+        (&["copy", "int4"], behind, ONE_ROW, b"rows 1\n", 31),
+        (&["copy", "int4?", "int4"], nulls, nulls, b"rows 1\n", 35),
+        (
+            &["copy", "int4?", "int4"],
+            other_nulls,
+            nulls,
+            b"rows 1\n",
+            35,
+        ),
+        (&["copy", "text", "text?"], texts, texts, b"rows 2\n", 44),
     ];
-    for (input, output, line, taken) in table {
-        let ended = run_on(rt.alloc(), &["copy", "int4"], input, &[], &[], &[]).expect(
-            &rt, "memory",
-        );
+    for (words, input, output, line, taken) in table {
+        let ended = run_on(rt.alloc(), words, input, &[], &[], &[]).expect(&rt, "memory");
         assert_eq!(rt; ended.status, Status::Copied);
         assert_eq!(rt; ended.line.gained(), line);
         assert_eq!(rt; ended.output.gained(), output);
@@ -168,11 +184,26 @@ fn no_call_is_made_that_is_not_needed(rt: HostRuntime) {
 }
 
 #[test]
-fn null_in_a_column_is_refused(rt: HostRuntime) {
-    let null: &[u8] = b"PGCOPY\n\xff\r\n\0\0\0\0\0\0\0\0\0\0\x01\xff\xff\xff\xff\xff\xff";
-    let ended = run_on(rt.alloc(), &["copy", "int4"], null, &[], &[], &[]).expect(&rt, "memory");
-    assert_eq!(rt; ended.status, Status::Refused);
-    assert_eq!(rt; ended.line.gained(), b"bad stream\n".as_slice());
+fn fields_that_spell_no_value_are_refused(rt: HostRuntime) {
+    let table: [(&str, &[u8]); 5] = [
+        ("int4", b"\xff\xff\xff\xff"),
+        ("text", b"\xff\xff\xff\xff"),
+        ("int4", b"\0\0\0\x03\0\0\x2a"),
+        ("int4?", b"\0\0\0\x05\0\0\0\x2a\0"),
+        ("text?", b"\0\0\0\x02\xc3\x28"),
+    ];
+    for (column, field) in table {
+        let mut input = Vec::from_slice(rt.alloc(), HEADER).expect(&rt, "memory");
+        input.extend_from_slice(b"\0\x01").expect(&rt, "memory");
+        input.extend_from_slice(field).expect(&rt, "memory");
+        input.extend_from_slice(b"\xff\xff").expect(&rt, "memory");
+        let ended = run_on(rt.alloc(), &["copy", column], &input, &[], &[], &[]).expect(
+            &rt, "memory",
+        );
+        assert_eq!(rt; ended.status, Status::Refused);
+        assert_eq!(rt; ended.line.gained(), b"bad stream\n".as_slice());
+        assert_eq!(rt; ended.output.gained(), HEADER);
+    }
 }
 
 #[test]

@@ -49,6 +49,12 @@ fn type_of(word: &str) -> Option<FirstType>
 {
     if word == "int4" {
         Some(FirstType::Int4)
+    } else if word == "int4?" {
+        Some(FirstType::Int4Null)
+    } else if word == "text" {
+        Some(FirstType::Text)
+    } else if word == "text?" {
+        Some(FirstType::TextNull)
     } else {
         None
     }

@@ -1,11 +1,8 @@
 -- The fields of a row, taken apart.
-use Rattle.std.proofs.Common.{◌≡◌, ℕ, ℤ, ◌+◌, ◌<◌, ◌≤◌, ◌^◌, List, [], ◌∷◌, ◌++◌, length, None, Some, refl, sym, ap, ◌∙◌, arith, append_assoc, append-nil, subst, lit<}
-use Rattle.std.specs.Int.{to_be_bytes, cast_unsigned, w32}
+use Rattle.std.proofs.Common.{◌≡◌, ℕ, ◌+◌, ◌<◌, ◌≤◌, ◌^◌, List, [], ◌∷◌, ◌++◌, length, None, Some, refl, sym, ap, ◌∙◌, arith, append_assoc, append-nil, subst}
+use Rattle.std.specs.Int.{to_be_bytes, w32}
 use Rattle.pgw_wire.specs.Cell.{Cell}
-use Rattle.pgw_tree.specs.Tree.{Value, int4, number}
-use Rattle.pgw_tree.specs.Spells.{SpellsInt4}
 use Rattle.pgw_tree.specs.Format.{IsField, AreFields}
-use Rattle.pgw_tree.specs.Copying.{IsFieldOf}
 use Rattle.pgw_tree.proofs.Lists.{same_front, same_rest}
 use Rattle.pgw_tree.proofs.Numbers.{same_number_4}
 
@@ -26,32 +23,6 @@ pub length_first : (cell : Cell) (field : List ℕ) → IsField cell field → I
 length_first None field h = record { word = h.0; behind = []; fits = h.2; is = h.3 ∙ sym (append-nil (to_be_bytes w32 h.0)); says = (h.1, refl) }
 length_first (Some p) field h = record { word = length p; behind = p; fits = omega (arith, h.0); is = h.1; says = (h.0, refl, refl) }
 
--- An int4's field is the length 4 and four bytes that spell the number.
-pub record IsInt4Field (field : List ℕ) (n : ℤ) : Type 0 where
-  pub piece : List ℕ
-  pub is : field ≡ to_be_bytes w32 4 ++ piece
-  pub spelled : SpellsInt4 piece n
-
-pub int4_field : (field : List ℕ) (n : ℤ) → IsFieldOf int4 field (number n) → IsInt4Field field n
-int4_field field n (None, h, s) = absurd s
-int4_field field n (Some p, h, s) = record { piece = p; is = h.1 ∙ ap (λ k. to_be_bytes w32 k ++ p) (ap length s.bytes); spelled = s }
-
--- the number that a value of an int4 is
-pub some_int4 : (field : List ℕ) (v : Value) → IsFieldOf int4 field v → (n : ℤ) × IsInt4Field field n
-some_int4 field (number n) h = (n, int4_field field n h)
-
-pub int4_spelled : (piece : List ℕ) (n : ℤ) → SpellsInt4 piece n → IsFieldOf int4 (to_be_bytes w32 4 ++ piece) (number n)
-int4_spelled piece n s = (Some piece, (four_is_short piece s.bytes, ap (λ k. to_be_bytes w32 k ++ piece) (sym (ap length s.bytes))), s)
-  where
-    four_is_short : (piece : List ℕ) → piece ≡ to_be_bytes w32 (cast_unsigned w32 n) → length piece < 2 ^ 31
-    four_is_short piece is = subst (λ (k : ℕ). k < 2 ^ 31) (sym (ap length is)) (lit< tt)
-
--- A length in front of an int4's field is 4.
-pub length_four : (word : ℕ) (x behind front piece rest : List ℕ) → word < 2 ^ 32 → x ≡ to_be_bytes w32 word → front ≡ to_be_bytes w32 4 ++ piece → x ++ behind ≡ front ++ rest → word ≡ 4
-length_four word x behind front piece rest fits is four e =
-    same_number_4 word 4 fits (lit< tt) (same_front (to_be_bytes w32 word) (to_be_bytes w32 4) behind (piece ++ rest) refl
-    (ap (λ l. l ++ behind) (sym is) ∙ e ∙ ap (λ l. l ++ rest) four ∙ append_assoc (to_be_bytes w32 4) piece rest))
-
 -- A field begins with its length.
 pub begins_length : (cell : Cell) (field : List ℕ) → IsField cell field → (x : List ℕ) × (y : List ℕ) × (length x ≡ 4) × (field ≡ x ++ y)
 begins_length cell field h = let f = length_first cell field h in (to_be_bytes w32 f.word, f.behind, refl, f.is)
@@ -62,19 +33,36 @@ same_length word x behind rest field f fits is e =
     same_number_4 word f.1.word fits f.1.fits (same_front (to_be_bytes w32 word) (to_be_bytes w32 f.1.word) behind (f.1.behind ++ rest) refl
     (ap (λ l. l ++ behind) (sym is) ∙ e ∙ ap (λ l. l ++ rest) f.1.is ∙ append_assoc (to_be_bytes w32 f.1.word) f.1.behind rest))
 
-says_piece : (word : ℕ) (cell : Cell) (behind : List ℕ) → word < 2 ^ 31 → Says word cell behind → length behind ≡ word
-says_piece word None behind short says = absurd (omega (arith, short, says.0))
-says_piece word (Some p) behind short says = ap length says.2 ∙ sym says.1
+said_piece : (word : ℕ) (cell : Cell) (behind : List ℕ) → word < 2 ^ 31 → Says word cell behind → (cell ≡ Some behind) × (length behind ≡ word)
+said_piece word None behind short says = absurd (omega (arith, short, says.0))
+said_piece word (Some p) behind short says = (ap Some (sym says.2), ap length says.2 ∙ sym says.1)
+
+said_null : (word : ℕ) (cell : Cell) (behind : List ℕ) → 2 ^ 31 ≤ word → Says word cell behind → cell ≡ None
+said_null word None behind negative says = refl
+said_null word (Some p) behind negative says = absurd (omega (arith, negative, says.0))
+
+-- A field that begins with a length that isn't negative is that of a piece, which has as many bytes as it states.
+pub field_piece : (word : ℕ) (x behind front rest : List ℕ) (cell : Cell) → word < 2 ^ 31 → x ≡ to_be_bytes w32 word → IsField cell front → x ++ behind ≡ front ++ rest → (y : List ℕ) × (cell ≡ Some y) × (length y ≡ word) × (front ≡ x ++ y)
+field_piece word x behind front rest cell short is h e =
+    let f = length_first cell front h in
+    let same = same_length word x behind rest front (cell, f) (omega (arith, short)) is e in
+    let said = said_piece word cell f.behind short (subst (λ (n : ℕ). Says n cell f.behind) (sym same) f.says) in (
+      f.behind,
+      said.0,
+      said.1,
+      f.is ∙ ap (λ n. to_be_bytes w32 n ++ f.behind) (sym same) ∙ ap (λ l. l ++ f.behind) (sym is),
+    )
+
+-- A field that begins with a negative length is a null.
+pub field_null : (word : ℕ) (x behind front rest : List ℕ) (cell : Cell) → 2 ^ 31 ≤ word → word < 2 ^ 32 → x ≡ to_be_bytes w32 word → IsField cell front → x ++ behind ≡ front ++ rest → cell ≡ None
+field_null word x behind front rest cell negative fits is h e =
+    let f = length_first cell front h in
+    let same = same_length word x behind rest front (cell, f) fits is e in
+    said_null word cell f.behind negative (subst (λ (n : ℕ). Says n cell f.behind) (sym same) f.says)
 
 -- Behind a length that isn't negative stand as many bytes as it states.
 pub piece_splits : (word : ℕ) (x behind front rest : List ℕ) → word < 2 ^ 31 → x ≡ to_be_bytes w32 word → (cell : Cell) × IsField cell front → x ++ behind ≡ front ++ rest → (y : List ℕ) × (length y ≡ word) × (front ≡ x ++ y)
-piece_splits word x behind front rest short is h e =
-    let f = length_first h.0 front h.1 in
-    let same = same_length word x behind rest front (h.0, f) (omega (arith, short)) is e in (
-      f.behind,
-      says_piece word h.0 f.behind short (subst (λ (n : ℕ). Says n h.0 f.behind) (sym same) f.says),
-      f.is ∙ ap (λ n. to_be_bytes w32 n ++ f.behind) (sym same) ∙ ap (λ l. l ++ f.behind) (sym is),
-    )
+piece_splits word x behind front rest short is h e = let p = field_piece word x behind front rest h.0 short is h.1 e in (p.0, p.2, p.3)
 
 pub piece_field : (word : ℕ) (x y : List ℕ) → word < 2 ^ 31 → x ≡ to_be_bytes w32 word → length y ≡ word → (cell : Cell) × IsField cell (x ++ y)
 piece_field word x y short is long =

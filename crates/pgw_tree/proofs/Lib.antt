@@ -3,6 +3,8 @@ pub mod Reading
 pub mod Numbers
 pub mod Headers
 pub mod Fields
+pub mod Pieces
+pub mod Texts
 pub mod Columns
 pub mod RowFields
 pub mod Ended

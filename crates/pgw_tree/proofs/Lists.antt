@@ -1,7 +1,7 @@
 -- Facts on lists: what fills a buffer, and what one list begins with.
-use Rattle.std.proofs.Common.{◌≡◌, ℕ, ◌+◌, ◌<◌, ◌≤◌, List, ◌++◌, length, take, drop, sym, ap, ◌∙◌, arith, length-append, length-drop}
+use Rattle.std.proofs.Common.{◌≡◌, ℕ, ◌+◌, ◌-◌, ◌<◌, ◌≤◌, List, ◌++◌, length, take, drop, sym, ap, ◌∙◌, arith, length-append, length-drop}
 use Rattle.std.proofs.Math.Seq.{take-append_seam, drop-append_seam, take-append-add}
-use Rattle.std.proofs.lemmas.List.{take-append-le, take-append-drop, length-take-le}
+use Rattle.std.proofs.lemmas.List.{take_all, take-append-le, take-append-drop, length-take-le}
 use borrow.Rule.Slice.PartMut.{put_mid, post_of}
 
 -- what was filled before, and the front of what was put behind it
@@ -35,3 +35,13 @@ split_behind x behind front rest k long e =
 -- a list begins with its first n
 pub begins_front : (n : ℕ) (front : List ℕ) → n ≤ length front → (x : List ℕ) × (y : List ℕ) × (length x ≡ n) × (front ≡ x ++ y)
 begins_front n front within = (take n front, drop n front, length-take-le n front within, sym (take-append-drop n front))
+
+-- the piece in front
+pub take_piece : (n : ℕ) (piece rest : List ℕ) → length piece ≡ n → take n (piece ++ rest) ≡ piece
+take_piece n piece rest long = ap (λ k. take k (piece ++ rest)) (sym long) ∙ take-append_seam piece rest
+
+-- what was appended, cut out from where it begins
+pub tail_of : (bytes old x : List ℕ) (start : ℕ) → bytes ≡ old ++ x → start ≡ length old → take (length bytes - start) (drop start bytes) ≡ x
+tail_of bytes old x start e s =
+    let d : drop start bytes ≡ x = ap (λ k. drop k bytes) s ∙ ap (drop (length old)) e ∙ drop-append_seam old x in
+    take_all (length bytes - start) (drop start bytes) (omega (arith, ap length d, ap length e, length-append old x, s)) ∙ d

@@ -7,7 +7,7 @@ use Rattle.std.specs.Io.KnownBytes.{IsAtEnd}
 use Rattle.pgw_wire.specs.Outside.{Took, NoFront}
 use Rattle.pgw_wire.proofs.Taking.{took_then, took_weaker, no_front_then, no_front_begun, no_front_taken, no_front_at_end}
 use Rattle.pgw_tree.specs.declared.fault.FirstFault.{FirstFault}
-use Rattle.pgw_tree.specs.declared.fault.FirstFault.TheVariants.{BadStream, ReadFault, WriteFault}
+use Rattle.pgw_tree.specs.declared.fault.FirstFault.TheVariants.{BadStream, ReadFault, WriteFault, NoMemory}
 use Rattle.pgw_tree.specs.Copying.{Reads}
 
 -- each front with R begins with one that has Q
@@ -51,6 +51,16 @@ reads_ended P Q t end clash = record {
   lost = took_weaker t (λ _ _. tt);
   ok = λ y e. absurd (cc);
   bad = λ e. no_front_at_end t end clash;
+  read_fault = λ e. absurd (cc);
+  write_fault = λ e. absurd (cc);
+}
+
+-- want of memory, behind what was taken
+pub reads_no_memory : {X : Type 0} {a b : Option (List ℕ)} {F W : Type 0} {r : Result X FirstFault} (P : X → List ℕ → Type 0) (Q : List ℕ → Type 0) → r ≡ Err NoMemory → Took a b (λ _. ⊤) → Reads a b F W r P Q
+reads_no_memory P Q is t = record {
+  lost = t;
+  ok = λ y e. absurd (cc);
+  bad = λ e. absurd (cc);
   read_fault = λ e. absurd (cc);
   write_fault = λ e. absurd (cc);
 }

@@ -1,27 +1,32 @@
 -- Whole streams: their rows, of which there is one list, and the limits.
-use Rattle.std.proofs.Common.{◌≡◌, ℕ, ◌<◌, ◌^◌, List, [], ◌∷◌, ◌++◌, length, refl, sym, ap, ◌∙◌, arith, append_assoc, lit≤}
+use Rattle.std.proofs.Common.{◌≡◌, ℕ, ◌<◌, ◌^◌, List, [], ◌∷◌, ◌++◌, length, None, Some, refl, sym, ap, ◌∙◌, arith, append_assoc}
 use Rattle.std.specs.List.{AllByRecursion}
 use Rattle.pgw_wire.specs.Cell.{Cell}
-use Rattle.pgw_tree.specs.Tree.{Shape, Value, int4, number}
-use Rattle.pgw_tree.specs.Spells.{SpellsRow, FitsRow}
-use Rattle.pgw_tree.specs.Format.{IsHeader, trailer}
+use Rattle.pgw_tree.specs.Tree.{Shape, Value}
+use Rattle.pgw_tree.specs.Spells.{Spells, SpellsRow, size_of, canonical_size, Fits, FitsRow}
+use Rattle.pgw_tree.specs.Format.{IsHeader, IsField, AreFields, trailer}
 use Rattle.pgw_tree.specs.Stream.{AreRows, IsStream, default_limits, IsWithin, IsValidStream}
 use Rattle.pgw_tree.specs.Copying.{IsEnded}
 use Rattle.pgw_tree.proofs.Lists.{same_front, same_rest}
 use Rattle.pgw_tree.proofs.Headers.{header_splits}
+use Rattle.pgw_tree.proofs.Pieces.{canonical_is}
 use Rattle.pgw_tree.proofs.Ended.{HasEnd}
 
--- Each value of an int4 fits, and so does each row of such.
-spelled_fits : (ts : List Shape) (cells : List Cell) (values : List Value) → SpellsRow ts cells values → FitsRow 2147483647 ts values
-spelled_fits [] cells [] spelled = tt
-spelled_fits [] cells (v ∷ vs) spelled = absurd spelled
-spelled_fits (t ∷ ts) [] values spelled = absurd spelled
-spelled_fits (t ∷ ts) (c ∷ cs) [] spelled = absurd spelled
-spelled_fits (int4 ∷ ts) (c ∷ cs) (number n ∷ vs) spelled = (lit≤ tt, spelled_fits ts cs vs spelled.1)
+-- A value that a field spells fits, and so does each row of such.
+spelled_size : (t : Shape) (cell : Cell) (field : List ℕ) (v : Value) → IsField cell field → Spells t cell v → Fits 2147483647 t v
+spelled_size t None field v h s = omega (arith, ap (canonical_size t) s.1)
+spelled_size t (Some p) field v h s = omega (arith, h.0, ap size_of (canonical_is t p v s))
+
+spelled_fits : (ts : List Shape) (cells : List Cell) (fields : List ℕ) (values : List Value) → AreFields cells fields → SpellsRow ts cells values → FitsRow 2147483647 ts values
+spelled_fits [] cells fields [] each spelled = tt
+spelled_fits [] cells fields (v ∷ vs) each spelled = absurd spelled
+spelled_fits (t ∷ ts) [] fields values each spelled = absurd spelled
+spelled_fits (t ∷ ts) (c ∷ cs) fields [] each spelled = absurd spelled
+spelled_fits (t ∷ ts) (c ∷ cs) fields (v ∷ vs) each spelled = (spelled_size t c each.0 v each.2 spelled.0, spelled_fits ts cs each.1 vs each.3 spelled.1)
 
 rows_fit : (ts : List Shape) (body : List ℕ) (rows : List (List Value)) → AreRows ts body rows → AllByRecursion (FitsRow 2147483647 ts) rows
 rows_fit ts body [] each = tt
-rows_fit ts body (values ∷ rows) each = (spelled_fits ts each.0 values each.4, rows_fit ts each.2 rows each.5)
+rows_fit ts body (values ∷ rows) each = (spelled_fits ts each.0 each.3.fields values each.3.each each.4, rows_fit ts each.2 rows each.5)
 
 -- A stream of few enough rows is within the limits.
 pub within : (ts : List Shape) (bytes : List ℕ) (rows : List (List Value)) → IsStream ts bytes rows → length rows < 2 ^ 64 → IsWithin default_limits ts rows

@@ -2,8 +2,10 @@
 use Rattle.std.specs.Int.{to_be_bytes, w32}
 use Rattle.std.proofs.Common.{◌≡◌, ℕ, pos, negsuc, List, [], ◌∷◌, ◌++◌, length, get_or, drop, Some, None, refl, ap, ◌∙◌, inl, inr, lit<, lit≤, append-nil, subst, arith}
 use Rattle.std.proofs.lemmas.Grind.{common_steps}
+use Rattle.std.specs.Str.{IsUtf8}
+use lib.Utf8.{encode}
 use Rattle.pgw_wire.specs.Cell.{Cell}
-use Rattle.pgw_tree.specs.Tree.{Shape, Value, int4, number}
+use Rattle.pgw_tree.specs.Tree.{Shape, Value, int4, text, nullable, null, number, string}
 use Rattle.pgw_tree.specs.Spells.{SpellsRow, canonical_cell}
 use Rattle.pgw_tree.specs.Format.{magic, IsHeader, IsCutHeader, IsField, IsRow, IsCutRow}
 use Rattle.pgw_tree.specs.Stream.{IsFront, IsStream, IsWithin, default_limits}
@@ -44,7 +46,7 @@ plain_is_header : IsHeader plain
 plain_is_header = record { fixed = plain; extension = []; begins = record { flags = 0; low = lit< tt; short = lit< tt; is = refl }; is = refl }
 
 spelled_42 : (cells : List Cell) → SpellsRow columns (Some (0 ∷ 0 ∷ 0 ∷ 42 ∷ []) ∷ cells) values
-spelled_42 cells = (record { fits = record { sfits = lit< tt }; bytes = refl }, tt)
+spelled_42 cells = (record { n = pos 42; fits = record { sfits = lit< tt }; bytes = refl; is = refl }, tt)
 
 -- A header and the end are a stream of no rows, and the canonical one.
 pub empty_stream : IsStream columns (plain ++ 255 ∷ 255 ∷ []) []
@@ -131,7 +133,7 @@ null_spells_none cells vs row spelled =
   where
     none : (c : Cell) (field : List ℕ) (vs : List Value) → IsField c field → field_null ≡ field ++ [] → SpellsRow columns (c ∷ []) vs → ⊥
     none c field [] f e h = h
-    none None field (v ∷ vs) f e h = h.0
+    none None field (v ∷ vs) f e h = absurd (cc)
     none (Some p) field (v ∷ vs) (short, is) e h = omega (arith, ap (λ l. get_or l 0 0) (e ∙ ap (λ f. f ++ []) is), short)
 
 -- A row that ends inside its field was cut there.
@@ -148,3 +150,38 @@ cut_row = inr (1, short_field, lit< tt, refl, λ cells row behind h e. let one =
         let byte = λ (i : ℕ). ap (λ l. get_or l i 0) all in
         let many : 7 ≡ length (to_be_bytes w32 (length p) ++ (p ++ behind)) = ap length all in
         grind (arith, common_steps, byte 0, byte 1, byte 2, byte 3, many, short)
+
+-- A null where a column allows one, by any negative length, and a text: the canonical stream writes -1 for the null.
+abbrev wide_columns : List Shape
+wide_columns = nullable int4 ∷ nullable text ∷ text ∷ []
+
+abbrev wide_values : List Value
+wide_values = null ∷ null ∷ string (195 ∷ 169 ∷ []) ∷ []
+
+abbrev text_field : List ℕ
+text_field = 0 ∷ 0 ∷ 0 ∷ 2 ∷ 195 ∷ 169 ∷ []
+
+letter_e_acute : IsUtf8 (195 ∷ 169 ∷ [])
+unfolding encode
+letter_e_acute = (233 ∷ [], (refl, refl))
+
+spelled_wide : SpellsRow wide_columns (None ∷ None ∷ Some (195 ∷ 169 ∷ []) ∷ []) wide_values
+spelled_wide = ((refl, refl), ((refl, refl), (record { utf8 = letter_e_acute; is = refl }, tt)))
+
+pub null_stream : IsStream wide_columns (plain ++ 0 ∷ 3 ∷ 128 ∷ 0 ∷ 0 ∷ 0 ∷ 255 ∷ 255 ∷ 255 ∷ 254 ∷ 0 ∷ 0 ∷ 0 ∷ 2 ∷ 195 ∷ 169 ∷ 255 ∷ 255 ∷ []) (wide_values ∷ [])
+null_stream = record { front = plain ++ 0 ∷ 3 ∷ fields; begins = front; is = refl }
+  where
+    fields : List ℕ
+    fields = 128 ∷ 0 ∷ 0 ∷ 0 ∷ 255 ∷ 255 ∷ 255 ∷ 254 ∷ text_field
+
+    other_null : IsField None (255 ∷ 255 ∷ 255 ∷ 254 ∷ [])
+    other_null = (4294967294, lit≤ tt, lit< tt, refl)
+
+    row : IsRow (None ∷ None ∷ Some (195 ∷ 169 ∷ []) ∷ []) (0 ∷ 3 ∷ fields)
+    row = record { fields = fields; few = lit< tt; each = (128 ∷ 0 ∷ 0 ∷ 0 ∷ [], 255 ∷ 255 ∷ 255 ∷ 254 ∷ text_field, cell_least, (255 ∷ 255 ∷ 255 ∷ 254 ∷ [], text_field, other_null, (text_field, [], (lit< tt, refl), refl, refl), refl), refl); is = refl }
+
+    front : IsFront wide_columns (plain ++ 0 ∷ 3 ∷ fields) (wide_values ∷ [])
+    front = record { header = plain; body = 0 ∷ 3 ∷ fields; begins = plain_is_header; each = (_, _, [], row, spelled_wide, refl, refl); is = refl }
+
+pub null_canonical : canonical_stream wide_columns (wide_values ∷ []) ≡ plain ++ 0 ∷ 3 ∷ 255 ∷ 255 ∷ 255 ∷ 255 ∷ 255 ∷ 255 ∷ 255 ∷ 255 ∷ 0 ∷ 0 ∷ 0 ∷ 2 ∷ 195 ∷ 169 ∷ 255 ∷ 255 ∷ []
+null_canonical = refl

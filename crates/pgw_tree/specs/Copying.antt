@@ -5,7 +5,7 @@ use Rattle.pgw_wire.specs.Outside.{Took, NoFront}
 use Rattle.pgw_tree.specs.declared.fault.FirstFault.{FirstFault}
 use Rattle.pgw_tree.specs.declared.fault.FirstFault.TheVariants.{BadStream, ReadFault, WriteFault}
 use Rattle.pgw_tree.specs.Tree.{Shape, Value}
-use Rattle.pgw_tree.specs.Spells.{Spells, SpellsRow}
+use Rattle.pgw_tree.specs.Spells.{Spells, SpellsPiece, SpellsRow}
 use Rattle.pgw_tree.specs.Format.{IsField, AreFields, trailer}
 use Rattle.pgw_tree.specs.Stream.{AreRows}
 
@@ -17,6 +17,10 @@ pub record Reads {X : Type 0} (before now : Option (List ℕ)) (read write : Typ
   pub bad : result ≡ Err BadStream → NoFront before Q
   pub read_fault : result ≡ Err ReadFault → read
   pub write_fault : result ≡ Err WriteFault → write
+
+-- The bytes are a piece of this length that spells a value of the type.
+abbrev pub IsPieceOf : Shape → ℕ → List ℕ → Type 0
+IsPieceOf t size piece = (length piece ≡ size) × ((v : Value) × SpellsPiece t piece v)
 
 -- The bytes are a field that spells the value.
 abbrev pub IsFieldOf : Shape → List ℕ → Value → Type 0

@@ -1,18 +1,31 @@
 -- Which values the cells of a row spell, by the types of the columns, and the one cell that a value is written as.
-use Rattle.std.specs.Prelude.{◌≡◌, ℕ, ℤ, ◌≤◌, List, [], ◌∷◌, length, None, Some, FitsSigned}
+use Rattle.std.specs.Prelude.{◌≡◌, ℕ, ℤ, ◌≤◌, true, List, [], ◌∷◌, length, None, Some, FitsSigned}
 use Rattle.std.specs.Int.{w32, to_be_bytes, cast_unsigned}
+use Rattle.std.specs.Str.{IsUtf8}
 use Rattle.pgw_wire.specs.Cell.{Cell}
-use Rattle.pgw_tree.specs.Tree.{Shape, Value, int4, number}
+use Rattle.pgw_tree.specs.Tree.{Shape, int4, text, nullable, Value, null, number, string, is_nullable}
 
 -- four bytes: the number in two's complement, the most significant byte first
-pub record SpellsInt4 (piece : List ℕ) (n : ℤ) : Type 0 where
+pub record SpellsInt4 (piece : List ℕ) (v : Value) : Type 0 where
+  pub n : ℤ
   pub fits : FitsSigned w32 n
   pub bytes : piece ≡ to_be_bytes w32 (cast_unsigned w32 n)
+  pub is : v ≡ number n
 
--- A cell spells a value of a type. A null spells none here, since no type is nullable.
+-- any number of bytes, as long as they are UTF-8
+pub record SpellsText (piece : List ℕ) (v : Value) : Type 0 where
+  pub utf8 : IsUtf8 piece
+  pub is : v ≡ string piece
+
+abbrev pub SpellsPiece : Shape → List ℕ → Value → Type 0
+SpellsPiece int4 p v = SpellsInt4 p v
+SpellsPiece text p v = SpellsText p v
+SpellsPiece (nullable t) p v = SpellsPiece t p v
+
+-- A cell spells a value of a type. A null spells the value null where the type is nullable, and nothing else.
 abbrev pub Spells : Shape → Cell → Value → Type 0
-Spells int4 None v = ⊥
-Spells int4 (Some p) (number n) = SpellsInt4 p n
+Spells t None v = (is_nullable t ≡ true) × (v ≡ null)
+Spells t (Some p) v = SpellsPiece t p v
 
 -- The first cells of a row spell the values, column by column. Cells behind the last column say nothing.
 abbrev pub SpellsRow : List Shape → List Cell → List Value → Type 0
@@ -22,9 +35,29 @@ SpellsRow (t ∷ ts) [] vs = ⊥
 SpellsRow (t ∷ ts) (c ∷ cs) [] = ⊥
 SpellsRow (t ∷ ts) (c ∷ cs) (v ∷ vs) = Spells t c v × SpellsRow ts cs vs
 
+abbrev pub int4_bytes : Value → List ℕ
+int4_bytes (number n) = to_be_bytes w32 (cast_unsigned w32 n)
+int4_bytes null = []
+int4_bytes (string s) = []
+
+abbrev pub text_bytes : Value → List ℕ
+text_bytes (string s) = s
+text_bytes null = []
+text_bytes (number n) = []
+
+abbrev pub canonical_piece : Shape → Value → List ℕ
+canonical_piece int4 v = int4_bytes v
+canonical_piece text v = text_bytes v
+canonical_piece (nullable t) v = canonical_piece t v
+
+abbrev pub unless_null : Value → List ℕ → Cell
+unless_null null piece = None
+unless_null (number n) piece = Some piece
+unless_null (string s) piece = Some piece
+
 -- The one cell that a value of the type is written as.
 abbrev pub canonical_cell : Shape → Value → Cell
-canonical_cell int4 (number n) = Some (to_be_bytes w32 (cast_unsigned w32 n))
+canonical_cell t v = unless_null v (canonical_piece t v)
 
 -- how many bytes a cell has, 0 for a null
 abbrev pub size_of : Cell → ℕ

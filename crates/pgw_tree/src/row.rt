@@ -1,41 +1,112 @@
-ghost use Rattle.std.specs.Prelude.{◌≡◌, ◌<◌, ◌≤◌, ◌+◌, ◌^◌, ◌++◌, List, ℕ, length, OnOk};
+ghost use Rattle.std.specs.Prelude.{◌≡◌, ◌<◌, ◌≤◌, ◌+◌, ◌^◌, ◌++◌, List, ℕ, length, Some, OnOk};
+ghost use Rattle.std.specs.Str.{is_utf8};
 ghost use Rattle.std.specs.List.{flat_map};
 ghost use Rattle.pgw_wire.specs.Cell.{Cell, frame};
 ghost use Rattle.pgw_wire.specs.Outside.{HasFailed};
-ghost use Rattle.pgw_tree.specs.Tree.{Value, shape, shapes, int4, number};
+ghost use Rattle.pgw_tree.specs.Tree.{Value, shape, shapes, int4, text};
 ghost use Rattle.pgw_tree.specs.Spells.{Spells, canonical_cell};
 ghost use Rattle.pgw_tree.specs.Format.{IsField, AreFields};
 ghost use Rattle.pgw_tree.specs.Canonical.{canonical_cells, canonical_row};
-ghost use Rattle.pgw_tree.specs.Copying.{Reads, IsFieldOf, AreFieldsOf, AreRowFields};
+ghost use Rattle.pgw_tree.specs.Copying.{Reads, IsPieceOf, IsFieldOf, AreFieldsOf, AreRowFields};
 
-use crate::source::{NEGATIVE_LENGTH, fill, pass_over, take_length};
+use crate::source::{CHUNK, NEGATIVE_LENGTH, fill, pass_over, take_length};
 use crate::{FirstFault, FirstType};
-use pgw_wire::{ByteBuffer, NoMemory, Source, take_i32};
+use pgw_wire::{ByteBuffer, Source, take_i32};
 
-/// Takes the field of an int4, which is its length 4 and the number. `BadStream` where no such field is left.
-fn take_int4<S: Source>(source: &mut S) -> Result<i32, FirstFault>
+/// The length -1, which a null is written as.
+const NULL: [u8; 4] = [0xff; 4];
+
+/// Takes the piece of an int4, which is four bytes, and appends its field. `BadStream` where the length is another, or
+/// fewer bytes are left.
+fn copy_int4<S: Source>(length: u32, source: &mut S, row: &mut ByteBuffer) -> Result<(), FirstFault>
     ensures reads { Reads (S.left source.old) (S.left source.new)
         (HasFailed (S.fault_count source.old) (S.fault_count source.new)) ⊥
-        result (λ n taken. IsFieldOf int4 taken (number n)) (λ front. (v : Value) × IsFieldOf int4 front v) }
+        result
+        (λ _ taken. IsPieceOf int4 length taken × (row.new.bytes ≡ row.old.bytes ++ frame (Some taken)))
+        (IsPieceOf int4 length) }
     ensures faults { S.fault_count source.old ≤ S.fault_count source.new }
     ensures origin { S.origin source.new ≡ S.origin source.old }
 {
-    let length = take_length(source)?;
     if length != 4 {
         return Err(FirstFault::BadStream);
     }
     let mut piece = [0; 4];
     fill(source, &mut piece)?;
     let (value, _) = take_i32(&piece).unwrap();
-    Ok(value)
+    row.push_all(&length.to_be_bytes())?;
+    row.push_all(&value.to_be_bytes())?;
+    Ok(())
 }
 
-/// Appends the field of an int4. Where memory is refused, a part of it may be appended.
-fn push_int4(row: &mut ByteBuffer, value: i32) -> Result<(), NoMemory>
-    ensures { OnOk result (row.new.bytes ≡ row.old.bytes ++ frame (canonical_cell int4 (number value))) }
+/// Takes the next `len` bytes, and appends them as they come.
+fn copy_bytes<S: Source>(len: usize, source: &mut S, row: &mut ByteBuffer) -> Result<(), FirstFault>
+    ensures reads { Reads (S.left source.old) (S.left source.new)
+        (HasFailed (S.fault_count source.old) (S.fault_count source.new)) ⊥
+        result
+        (λ _ taken. (length taken ≡ len) × (row.new.bytes ≡ row.old.bytes ++ taken)) (λ front. length front ≡ len) }
+    ensures grown { OnOk result (length row.new.bytes ≡ length row.old.bytes + len) }
+    ensures faults { S.fault_count source.old ≤ S.fault_count source.new }
+    ensures origin { S.origin source.new ≡ S.origin source.old }
 {
-    row.push_all(&4u32.to_be_bytes())?;
-    row.push_all(&value.to_be_bytes())
+    let mut chunk = [0; CHUNK];
+    let chunk = &mut chunk[..];
+    let mut left = len;
+    while left > 0 {
+        let next = left.min(CHUNK);
+        fill(source, &mut chunk[..next])?;
+        row.push_all(&chunk[..next])?;
+        left -= next;
+    }
+    Ok(())
+}
+
+/// Whether the bytes are UTF-8.
+fn is_text(bytes: &[u8]) -> bool
+    ensures { result ≡ is_utf8 bytes.now }
+{
+    str::from_utf8(bytes).is_ok()
+}
+
+/// Takes the piece of a text, and appends its field. `BadStream` where it is not UTF-8, or fewer bytes are left.
+fn copy_text<S: Source>(length: u32, source: &mut S, row: &mut ByteBuffer) -> Result<(), FirstFault>
+    ensures reads { Reads (S.left source.old) (S.left source.new)
+        (HasFailed (S.fault_count source.old) (S.fault_count source.new)) ⊥
+        result
+        (λ _ taken. IsPieceOf text length taken × (row.new.bytes ≡ row.old.bytes ++ frame (Some taken)))
+        (IsPieceOf text length) }
+    ensures faults { S.fault_count source.old ≤ S.fault_count source.new }
+    ensures origin { S.origin source.new ≡ S.origin source.old }
+{
+    row.push_all(&length.to_be_bytes())?;
+    let start = row.len();
+    copy_bytes(length as usize, source, row)?;
+    if is_text(&row.as_bytes()[start..]) {
+        Ok(())
+    } else {
+        Err(FirstFault::BadStream)
+    }
+}
+
+/// Takes the piece of a column's field, and appends the field. `BadStream` where no piece that spells a value of the
+/// type is left.
+fn copy_piece<S: Source>(
+    column: FirstType,
+    length: u32,
+    source: &mut S,
+    row: &mut ByteBuffer,
+) -> Result<(), FirstFault>
+    ensures reads { Reads (S.left source.old) (S.left source.new)
+        (HasFailed (S.fault_count source.old) (S.fault_count source.new)) ⊥
+        result
+        (λ _ taken. IsPieceOf (shape column) length taken × (row.new.bytes ≡ row.old.bytes ++ frame (Some taken)))
+        (IsPieceOf (shape column) length) }
+    ensures faults { S.fault_count source.old ≤ S.fault_count source.new }
+    ensures origin { S.origin source.new ≡ S.origin source.old }
+{
+    match column {
+        FirstType::Int4 | FirstType::Int4Null => copy_int4(length, source, row),
+        FirstType::Text | FirstType::TextNull => copy_text(length, source, row),
+    }
 }
 
 /// Takes the field of a column, and appends the canonical field of the value that it spells. `BadStream` where no
@@ -54,12 +125,14 @@ fn copy_field<S: Source>(
     ensures faults { S.fault_count source.old ≤ S.fault_count source.new }
     ensures origin { S.origin source.new ≡ S.origin source.old }
 {
-    match column {
-        FirstType::Int4 => {
-            let value = take_int4(source)?;
-            push_int4(row, value)?;
-            Ok(())
-        }
+    let length = take_length(source)?;
+    if length < NEGATIVE_LENGTH {
+        copy_piece(column, length, source, row)
+    } else if column.is_nullable() {
+        row.push_all(&NULL)?;
+        Ok(())
+    } else {
+        Err(FirstFault::BadStream)
     }
 }
 

@@ -7,8 +7,8 @@ ghost use Rattle.pgw_tree.specs.Format.{IsCount};
 use crate::FirstFault;
 use pgw_wire::{Source, take_u16, take_u32};
 
-/// How many bytes are passed over at once.
-const CHUNK: usize = 512;
+/// How many bytes are taken at once where they are many.
+pub(crate) const CHUNK: usize = 512;
 
 /// The count -1, which ends a stream, in two's complement.
 const END: u16 = 0xffff;
