@@ -3,6 +3,8 @@
 #![tactic(auto)]
 
 mod edge;
+#[cfg(test)]
+mod edge_tests;
 mod report;
 mod run;
 #[cfg(test)]

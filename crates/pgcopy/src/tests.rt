@@ -1,6 +1,6 @@
 use crate::report::Status;
 use crate::run::run;
-use pgw_wire::{MemorySink, MemorySource};
+use pgw_wire::{MemorySink, MemorySource, Sink};
 use std::alloc::{AllocError, Global};
 
 // a header without flags and extension
@@ -170,16 +170,22 @@ fn no_call_is_made_that_is_not_needed(rt: HostRuntime) {
         &rt, "memory",
     );
     assert_eq!(rt; flushed.status, Status::Copied);
+    assert_eq!(rt; flushed.output.faults(), 0);
     let short: &[u8] = b"PGCOPY\n\xff\r\n\0\0\0\0\0\0\0\0\0\0\x02\0\0\0\x04\0\0\0\x2a";
-    let null: &[u8] = b"PGCOPY\n\xff\r\n\0\0\0\0\0\0\0\0\0\0\x01\xff\xff\xff\xff";
-    let table: [(&[&str], &[u8], u64, usize); 2] = [
-        (&["copy", "int4", "int4", "int4"], short, 2, 21),
-        (&["copy", "int4"], null, 3, 25),
+    let null: &[u8] =
+        b"PGCOPY\n\xff\r\n\0\0\0\0\0\0\0\0\0\0\x01\0\0\0\x04\0\0\0\x2a\0\x01\xff\xff\xff\xff\xff\xff";
+    let other: &[u8] = b"PGCOPX\n\xff\r\n\0\0\0\0\0\0\0\0\0\0\x01\0\0\0\x04\0\0\0\x2a";
+    let table: [(&[&str], &[u8], u64, usize, &[u8]); 4] = [
+        (&["copy", "int4", "int4", "int4"], short, 2, 21, HEADER),
+        (&["copy", "int4"], null, 6, 35, &ONE_ROW[..29]),
+        (&["copy", "int4"], &ONE_ROW[..29], 5, 29, &ONE_ROW[..29]),
+        (&["copy", "int4"], other, 1, 19, b""),
     ];
-    for (words, input, call, taken) in table {
+    for (words, input, call, taken, written) in table {
         let ended = run_on(rt.alloc(), words, input, &[], &[call], &[]).expect(&rt, "memory");
-        assert_eq!(rt; ended.status, Status::Refused);
+        assert_eq!(rt; ended.status, Status::Refused, "at {taken}");
         assert_eq!(rt; ended.taken, taken);
+        assert_eq!(rt; ended.output.gained(), written);
     }
 }
 
@@ -222,5 +228,11 @@ fn stream_cut_anywhere_is_refused(rt: HostRuntime) {
         .expect(&rt, "memory");
         assert_eq!(rt; ended.status, Status::Refused, "at {len}");
         assert_eq!(rt; ended.line.gained(), b"bad stream\n".as_slice(), "at {len}");
+        let written = match len {
+            0..19 => 0,
+            19..29 => 19,
+            _ => 29,
+        };
+        assert_eq!(rt; ended.output.gained(), &whole[..written], "at {len}");
     }
 }

@@ -1,0 +1,81 @@
+use crate::edge::{copy, explain};
+use crate::report::Status;
+use std::io::{Error, ErrorKind, Read, Result, Write};
+
+// a stream of one row, the number 42
+const ONE_ROW: &[u8] = b"PGCOPY\n\xff\r\n\0\0\0\0\0\0\0\0\0\0\x01\0\0\0\x04\0\0\0\x2a\xff\xff";
+
+/// A reader whose first call a signal interrupts.
+#[derive(Drop)]
+struct Interrupted<'a> {
+    was: bool,
+    rest: &'a [u8],
+}
+
+impl Read for Interrupted<'_> {
+    fn read(&mut self, buf: &mut [u8]) -> Result<usize> {
+        if !self.was {
+            self.was = true;
+            return Err(Error::from(ErrorKind::Interrupted));
+        }
+        self.rest.read(buf)
+    }
+}
+
+/// A writer that has no room.
+#[derive(Drop)]
+struct Full;
+
+impl Write for Full {
+    fn write(&mut self, _buf: &[u8]) -> Result<usize> {
+        Err(Error::from(ErrorKind::StorageFull))
+    }
+
+    fn flush(&mut self) -> Result<()> {
+        Ok(())
+    }
+}
+
+#[test]
+fn what_came_of_a_copy_is_told(rt: HostRuntime) {
+    let alloc = rt.alloc();
+    let mut words = Vec::new(alloc);
+    for word in ["copy", "int4"] {
+        words
+            .push(String::from_str(alloc, word).expect(&rt, "memory"))
+            .expect(&rt, "memory");
+    }
+    let table: [(&[u8], Status, &[u8]); 2] = [
+        (ONE_ROW, Status::Copied, b"rows 1\n"),
+        (&ONE_ROW[..29], Status::Refused, b"bad stream\n"),
+    ];
+    for (input, status, line) in table {
+        let mut output = Vec::<u8>::new(alloc);
+        let mut errors = Vec::<u8>::new(alloc);
+        let reader = Interrupted {
+            was: false,
+            rest: input,
+        };
+        let ended = copy(alloc, &words, reader, &mut output, &mut errors).expect(&rt, "memory");
+        assert_eq!(rt; ended, status);
+        assert_eq!(rt; output.as_slice(), input);
+        assert_eq!(rt; errors.as_slice(), line);
+    }
+    let mut errors = Vec::<u8>::new(alloc);
+    let ended = copy(alloc, &words, ONE_ROW, Full, &mut errors).expect(&rt, "memory");
+    assert_eq!(rt; ended, Status::Outside);
+    assert_eq!(rt; errors.as_slice(), b"write fault\n".as_slice());
+}
+
+#[test]
+fn why_there_was_no_run_is_told(rt: HostRuntime) {
+    let table: [(ErrorKind, &[u8]); 2] = [
+        (ErrorKind::OutOfMemory, b"out of memory\n"),
+        (ErrorKind::InvalidData, b"arguments are not text\n"),
+    ];
+    for (kind, line) in table {
+        let mut errors = Vec::<u8>::new(rt.alloc());
+        explain(&Error::from(kind), &mut errors);
+        assert_eq!(rt; errors.as_slice(), line);
+    }
+}
