@@ -1,6 +1,6 @@
 -- What the calls of a source or a sink leave, in words that both traits share.
 use Rattle.std.specs.Prelude.{ℕ, ◌≡◌, ◌+◌, ◌-◌, ◌^◌, ◌≤◌, ◌==◌, ◌++◌, Bool, false, List, Option, Some, option_map, min, if◌then◌else◌}
-use Rattle.std.specs.Io.KnownBytes.{Appends}
+use Rattle.std.specs.Io.KnownBytes.{Appends, Consumes}
 
 -- one more, where the count stops at the largest u64
 abbrev pub counted : ℕ → ℕ
@@ -22,9 +22,11 @@ pub record TakenFrom (left : List ℕ) (now : Option (List ℕ)) (P : List ℕ �
   pub left_is : left ≡ taken ++ rest
   pub has : P taken
 
--- The bytes that were taken have P, where it is told what was left.
+-- Some bytes with P were taken. Where it is told what is left, it began with them, and lost them.
 pub record Took (before now : Option (List ℕ)) (P : List ℕ → Type 0) : Type 0 where
-  pub from : (left : List ℕ) → before ≡ Some left → TakenFrom left now P
+  pub taken : List ℕ
+  pub consumed : Consumes before now taken
+  pub has : P taken
 
 -- No front of what is left has P, where it is told what is left.
 pub record NoFront (before : Option (List ℕ)) (P : List ℕ → Type 0) : Type 0 where

@@ -1,4 +1,4 @@
-ghost use Rattle.std.specs.Prelude.{◌≡◌, ◌+◌, ◌≤◌, [], ◌++◌, length, OnOk, OnErr};
+ghost use Rattle.std.specs.Prelude.{◌≡◌, ◌+◌, ◌≤◌, [], ◌++◌, length, take, IsOk, OnOk, OnErr};
 ghost use Rattle.std.specs.Int.{to_be_bytes, w32};
 ghost use Rattle.pgw_wire.specs.Room.{overwritten};
 
@@ -41,10 +41,40 @@ impl ByteBuffer {
     pub fn push_all(&mut self, piece: &[u8]) -> Result<(), NoMemory>
         ensures ok { OnOk result (self.new.bytes ≡ self.old.bytes ++ piece.now) }
         ensures err { OnErr result (self.new ≡ self.old) }
+        ensures spare { self.old.spare ≤ self.new.spare + length piece.now }
+        ensures suffices { length piece.now ≤ self.old.spare → IsOk result }
     {
         self.bytes.extend_from_slice(piece)?;
         self.spare = self.spare.saturating_sub(piece.len());
         Ok(())
+    }
+
+    /// Makes the spare at least `extra`, so that `push_reserved` takes as many bytes. Where the spare suffices it takes
+    /// no memory, and answers Ok. Where memory is refused, the buffer is as before.
+    pub fn reserve(&mut self, extra: usize) -> Result<(), NoMemory>
+        ensures bytes { self.new.bytes ≡ self.old.bytes }
+        ensures ok { OnOk result (extra ≤ self.new.spare) }
+        ensures spare { self.old.spare ≤ self.new.spare }
+        ensures suffices { extra ≤ self.old.spare → IsOk result }
+        ensures err { OnErr result (self.new ≡ self.old) }
+    {
+        if self.spare < extra {
+            self.bytes.reserve(extra)?;
+            self.spare = extra;
+        }
+        Ok(())
+    }
+
+    /// Appends the piece into the room that was made for it. It takes no memory.
+    pub fn push_reserved(&mut self, piece: &[u8])
+        requires { length piece.now ≤ self.old.spare }
+        ensures bytes { self.new.bytes ≡ self.old.bytes ++ piece.now }
+        ensures spare { self.new.spare + length piece.now ≡ self.old.spare }
+    {
+        if self.bytes.extend_from_slice(piece).is_err() {
+            unreachable!();
+        }
+        self.spare -= piece.len();
     }
 
     /// Writes the number, big-endian, over the four bytes at `place`. Nothing else changes.
@@ -54,6 +84,15 @@ impl ByteBuffer {
         ensures spare { self.new.spare ≡ self.old.spare }
     {
         self.bytes[place..place + 4].copy_from_slice(&value.to_be_bytes());
+    }
+
+    /// Drops the bytes behind the first `len` and keeps their room.
+    pub fn truncate(&mut self, len: usize)
+        requires { len ≤ length self.old.bytes }
+        ensures bytes { self.new.bytes ≡ take len self.old.bytes }
+        ensures spare { self.old.spare ≤ self.new.spare }
+    {
+        self.bytes.truncate(len);
     }
 
     /// Drops all bytes and keeps their room.
@@ -76,5 +115,10 @@ impl ByteBuffer {
         ensures { result ≡ length self.now.bytes }
     {
         self.bytes.len()
+    }
+
+    /// The allocator that its memory comes from.
+    pub fn alloc(&self) -> Global {
+        *self.bytes.allocator()
     }
 }

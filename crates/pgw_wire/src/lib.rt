@@ -10,14 +10,16 @@ mod error;
 mod io;
 mod memory;
 mod outside;
+mod quiet;
 
 pub use buffer::ByteBuffer;
 pub use cell::RawCell;
-pub use cuts::{take_i16, take_i32, take_piece, take_u16, take_u32};
+pub use cuts::{take_i16, take_i32, take_i64, take_piece, take_u8, take_u16, take_u32, take_u64};
 pub use error::{Failed, NoMemory};
 pub use io::{ReadSource, WriteSink};
 pub use memory::{MemorySink, MemorySource};
 pub use outside::{Sink, Source};
+pub use quiet::{QuietSink, QuietSource};
 
 #[cfg(test)]
 mod tests;

@@ -52,7 +52,7 @@ impl MemorySource {
 
 /// Copies as many of the first bytes to the front of the buffer as fit there, `limit` at most.
 #[tactic(auto, using(crate::proofs::Lists::front_copied))]
-fn copy_front(bytes: &[u8], buf: &mut [u8], limit: usize) -> usize
+pub(crate) fn copy_front(bytes: &[u8], buf: &mut [u8], limit: usize) -> usize
     ensures count { result ≡ min (min (length bytes.now) (length buf.old)) limit }
     ensures filled { buf.new ≡ take result bytes.now ++ drop result buf.old }
     ensures front { take result buf.new ≡ take result bytes.now }

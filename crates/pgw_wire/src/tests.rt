@@ -22,6 +22,23 @@ fn numbers_and_pieces_are_cut_from_the_front(rt: HostRuntime) {
     assert_eq!(rt; take_piece(bytes, 8), None);
 }
 
+// The eight bytes 12 .. 56 and their number are those of Rust's page on `u64::from_be_bytes`.
+#[test]
+fn numbers_of_one_and_eight_bytes_are_cut_from_the_front(rt: HostRuntime) {
+    assert_eq!(rt; take_u8(b"\xfe\x01"), Some((254, b"\x01".as_slice())));
+    assert_eq!(rt; take_u8(b""), None);
+    let bytes = b"\x12\x34\x56\x78\x90\x12\x34\x56\x07".as_slice();
+    let behind = b"\x07".as_slice();
+    assert_eq!(rt; take_u64(bytes), Some((0x1234_5678_9012_3456, behind)));
+    assert_eq!(rt; take_i64(bytes), Some((0x1234_5678_9012_3456, behind)));
+    let least = b"\x80\0\0\0\0\0\0\0".as_slice();
+    let nothing = b"".as_slice();
+    assert_eq!(rt; take_u64(least), Some((9223372036854775808, nothing)));
+    assert_eq!(rt; take_i64(least), Some((-9223372036854775808, nothing)));
+    assert_eq!(rt; take_u64(&bytes[..7]), None);
+    assert_eq!(rt; take_i64(&bytes[..7]), None);
+}
+
 #[test]
 fn a_buffer_grows_and_is_patched(rt: HostRuntime) -> Result<(), Fail> {
     let mut buffer = ByteBuffer::new(rt.alloc());
@@ -32,6 +49,22 @@ fn a_buffer_grows_and_is_patched(rt: HostRuntime) -> Result<(), Fail> {
     assert_eq!(rt; buffer.as_bytes(), b"\x01\xa0\xb0\xc0\xd0\x06".as_slice());
     buffer.clear();
     assert_eq!(rt; buffer.len(), 0);
+    Ok(())
+}
+
+#[test]
+fn a_buffer_takes_pieces_into_reserved_room(rt: HostRuntime) -> Result<(), Fail> {
+    let mut buffer = ByteBuffer::new(rt.alloc());
+    buffer.reserve(4)?;
+    buffer.push_reserved(b"\x01\x02\x03");
+    buffer.push_reserved(b"\x04");
+    assert_eq!(rt; buffer.as_bytes(), b"\x01\x02\x03\x04".as_slice());
+    buffer.truncate(2);
+    assert_eq!(rt; buffer.reserve(usize::MAX), Err(NoMemory));
+    assert_eq!(rt; buffer.as_bytes(), b"\x01\x02".as_slice());
+    let mut other = ByteBuffer::new(buffer.alloc());
+    other.push_all(b"\x05")?;
+    assert_eq!(rt; other.as_bytes(), b"\x05".as_slice());
     Ok(())
 }
 
@@ -71,6 +104,29 @@ fn a_memory_sink_cuts_and_fails_as_told(rt: HostRuntime) -> Result<(), Fail> {
     assert_eq!(rt; sink.gained(), b"abcde".as_slice());
     assert_eq!(rt; sink.faults(), 1);
     Ok(())
+}
+
+#[test]
+fn a_quiet_source_gives_what_fits(rt: HostRuntime) -> Result<(), Fail> {
+    let mut source = QuietSource::new(b"abc".to_vec(rt.alloc())?);
+    let mut buf = [0; 2];
+    for (answer, front) in [(Ok(2), b"ab"), (Ok(1), b"cb"), (Ok(0), b"cb")] {
+        assert_eq!(rt; source.read(&mut buf), answer);
+        assert_eq!(rt; buf, *front);
+    }
+    assert_eq!(rt; source.faults(), 0);
+    Ok(())
+}
+
+#[test]
+fn a_quiet_sink_counts_its_bytes(rt: HostRuntime) {
+    let mut sink = QuietSink::new();
+    assert_eq!(rt; sink.write(b"ab"), Ok(2));
+    assert_eq!(rt; sink.write(b""), Ok(0));
+    assert_eq!(rt; sink.write(b"c"), Ok(1));
+    assert_eq!(rt; sink.flush(), Ok(()));
+    assert_eq!(rt; sink.count(), 3);
+    assert_eq!(rt; sink.faults(), 0);
 }
 
 /// A reader that writes behind the bytes that it counts and a writer that takes none, and both fail at last.
