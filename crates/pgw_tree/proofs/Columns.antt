@@ -7,10 +7,10 @@ use Rattle.std.specs.List.{flat_map}
 use Rattle.pgw_wire.specs.Cell.{Cell, frame}
 use Rattle.pgw_tree.specs.Tree.{Shape, Value, shape, shapes}
 use Rattle.pgw_tree.specs.Spells.{SpellsRow}
-use Rattle.pgw_tree.specs.Format.{AreFields}
+use Rattle.pgw_copy.specs.Format.{AreFields}
 use Rattle.pgw_tree.specs.Canonical.{canonical_cells}
 use Rattle.pgw_tree.specs.Copying.{IsFieldOf, AreFieldsOf}
-use Rattle.pgw_tree.proofs.Fields.{field_once}
+use Rattle.pgw_copy.proofs.Fields.{field_once}
 
 abbrev pub canonical_fields : List Shape → List Value → List ℕ
 canonical_fields columns values = flat_map frame (canonical_cells columns values)

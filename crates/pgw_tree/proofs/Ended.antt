@@ -2,15 +2,15 @@
 use Rattle.std.proofs.Common.{◌≡◌, ℕ, suc, ◌+◌, ◌<◌, ◌^◌, List, [], ◌∷◌, ◌++◌, length, Option, None, Some, refl, sym, ap, ◌∙◌, arith, append_assoc, lit<, subst, inl, inr, ◌⊎◌}
 use Rattle.std.specs.Int.{to_be_bytes, w16}
 use Rattle.pgw_tree.specs.Tree.{Shape, Value}
-use Rattle.pgw_tree.specs.Format.{trailer, IsCount}
+use Rattle.pgw_copy.specs.Format.{trailer, IsCount}
 use Rattle.pgw_tree.specs.Stream.{AreRows}
 use Rattle.pgw_tree.specs.Copying.{AreRowFields, IsEnded}
 use Rattle.pgw_wire.specs.Outside.{NoFront}
 use Rattle.pgw_wire.proofs.Taking.{no_front_begun}
 use Rattle.pgw_tree.specs.Canonical.{canonical_row}
 use Rattle.pgw_tree.proofs.Reading.{begins_whole}
-use Rattle.pgw_tree.proofs.Lists.{same_front}
-use Rattle.pgw_tree.proofs.Numbers.{same_number_2, length-count}
+use Rattle.pgw_copy.proofs.Lists.{same_front}
+use Rattle.pgw_copy.proofs.Numbers.{same_number_2, length-count}
 use Rattle.pgw_tree.proofs.RowFields.{HasRowFields, fields_once}
 
 -- rows and the end, and with the rows before them fewer than 2 ^ 64

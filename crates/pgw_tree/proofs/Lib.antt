@@ -1,8 +1,4 @@
-pub mod Lists
 pub mod Reading
-pub mod Numbers
-pub mod Headers
-pub mod Fields
 pub mod Pieces
 pub mod Texts
 pub mod Columns

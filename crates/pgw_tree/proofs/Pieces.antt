@@ -5,7 +5,7 @@ use Rattle.pgw_wire.specs.Cell.{Cell, frame}
 use Rattle.pgw_tree.specs.Tree.{Shape, int4, text, nullable, Value, is_nullable}
 use Rattle.pgw_tree.specs.Spells.{Spells, SpellsPiece, canonical_cell}
 use Rattle.pgw_tree.specs.Copying.{IsPieceOf, IsFieldOf}
-use Rattle.pgw_tree.proofs.Fields.{field_piece, field_null}
+use Rattle.pgw_copy.proofs.Fields.{field_piece, field_null}
 
 -- A value is written as the piece that spells it.
 pub canonical_is : (t : Shape) (piece : List ℕ) (v : Value) → SpellsPiece t piece v → canonical_cell t v ≡ Some piece

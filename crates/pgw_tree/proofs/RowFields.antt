@@ -1,12 +1,12 @@
 -- All fields of a row: those of its columns, and those behind them.
 use Rattle.std.proofs.Common.{◌≡◌, ℕ, ◌+◌, ◌<◌, ◌≤◌, List, [], ◌∷◌, ◌++◌, length, refl, sym, ap, ◌∙◌, arith, append_assoc, length-append, subst}
-use Rattle.pgw_tree.proofs.Lists.{same_rest}
+use Rattle.pgw_copy.proofs.Lists.{same_rest}
 use Rattle.pgw_wire.specs.Cell.{Cell}
 use Rattle.pgw_tree.specs.Tree.{Shape, Value}
 use Rattle.pgw_tree.specs.Spells.{SpellsRow}
-use Rattle.pgw_tree.specs.Format.{AreFields}
+use Rattle.pgw_copy.specs.Format.{AreFields}
 use Rattle.pgw_tree.specs.Copying.{AreFieldsOf, AreRowFields}
-use Rattle.pgw_tree.proofs.Fields.{field_once, AreSomeFields}
+use Rattle.pgw_copy.proofs.Fields.{field_once, AreSomeFields}
 use Rattle.pgw_tree.proofs.Columns.{HasFields, no_columns, columns_more}
 
 -- A row spells no more values than it has fields.

@@ -4,11 +4,11 @@ use Rattle.std.specs.List.{AllByRecursion}
 use Rattle.pgw_wire.specs.Cell.{Cell}
 use Rattle.pgw_tree.specs.Tree.{Shape, Value}
 use Rattle.pgw_tree.specs.Spells.{Spells, SpellsRow, size_of, canonical_size, Fits, FitsRow}
-use Rattle.pgw_tree.specs.Format.{IsHeader, IsField, AreFields, trailer}
+use Rattle.pgw_copy.specs.Format.{IsHeader, IsField, AreFields, trailer}
 use Rattle.pgw_tree.specs.Stream.{AreRows, IsStream, default_limits, IsWithin, IsValidStream}
 use Rattle.pgw_tree.specs.Copying.{IsEnded}
-use Rattle.pgw_tree.proofs.Lists.{same_front, same_rest}
-use Rattle.pgw_tree.proofs.Headers.{header_splits}
+use Rattle.pgw_copy.proofs.Lists.{same_front, same_rest}
+use Rattle.pgw_copy.proofs.Headers.{header_splits}
 use Rattle.pgw_tree.proofs.Pieces.{canonical_is}
 use Rattle.pgw_tree.proofs.Ended.{HasEnd}
 

@@ -6,11 +6,11 @@ use Rattle.std.proofs.Math.Facts.{Fits-of_z}
 use Rattle.pgw_wire.specs.Cell.{Cell}
 use Rattle.pgw_tree.specs.Tree.{Shape, int4, text, nullable, Value, number}
 use Rattle.pgw_tree.specs.Spells.{SpellsInt4, SpellsPiece, Spells, SpellsRow}
-use Rattle.pgw_tree.specs.Format.{IsField, AreFields, trailer}
+use Rattle.pgw_copy.specs.Format.{IsField, AreFields, trailer}
 use Rattle.pgw_tree.specs.Stream.{AreRows, IsStream}
-use Rattle.pgw_tree.proofs.Lists.{same_front, same_rest}
-use Rattle.pgw_tree.proofs.Numbers.{same_number_2, same_number_4}
-use Rattle.pgw_tree.proofs.Fields.{Says, length_first, field_once}
+use Rattle.pgw_copy.proofs.Lists.{same_front, same_rest}
+use Rattle.pgw_copy.proofs.Numbers.{same_number_2, same_number_4}
+use Rattle.pgw_copy.proofs.Fields.{Says, length_first, field_once}
 use Rattle.pgw_tree.proofs.RowFields.{fields_once}
 use Rattle.pgw_tree.proofs.Ended.{count_is_not_end}
 use Rattle.pgw_tree.proofs.Streams.{header_once}

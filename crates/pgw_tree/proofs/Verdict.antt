@@ -2,6 +2,7 @@
 use Rattle.std.proofs.Common.{◌≡◌, ℕ, List, ◌++◌, Option, None, Some, Result, Ok, Err, refl, inl, inr, ◌⊎◌}
 use Rattle.std.specs.Prelude.{IsOkUnless, IfOk, IsSome}
 use Rattle.pgw_wire.specs.Outside.{Took, NoFront, HasFront}
+use Rattle.pgw_wire.proofs.Taking.{took_from}
 use Rattle.pgw_tree.specs.declared.fault.FirstFault.{FirstFault}
 use Rattle.pgw_tree.specs.declared.fault.FirstFault.TheVariants.{BadStream, ReadFault, WriteFault, NoMemory}
 use Rattle.pgw_tree.specs.Copying.{Reads}
@@ -25,7 +26,7 @@ told_front None b P Q told t weaker none = false_is_true told
     false_is_true : IsSome {T = List ℕ} None → ⊥
     false_is_true e = cc
 told_front (Some left) b P Q told t weaker none =
-    let x = t.from left refl in
+    let x = took_from (Some left) b P t left refl in
     none.none left x.taken x.rest refl x.left_is (weaker x.taken x.has)
 
 -- Where it is not left and nobody failed, it is refused but for want of memory.

@@ -7,7 +7,7 @@ use lib.Utf8.{encode}
 use Rattle.pgw_wire.specs.Cell.{Cell}
 use Rattle.pgw_tree.specs.Tree.{Shape, Value, int4, text, nullable, null, number, string}
 use Rattle.pgw_tree.specs.Spells.{SpellsRow, canonical_cell}
-use Rattle.pgw_tree.specs.Format.{magic, IsHeader, IsCutHeader, IsField, IsRow, IsCutRow}
+use Rattle.pgw_copy.specs.Format.{magic, IsHeader, IsCutHeader, IsField, IsRow, IsCutRow}
 use Rattle.pgw_tree.specs.Stream.{IsFront, IsStream, IsWithin, default_limits}
 use Rattle.pgw_tree.specs.Canonical.{canonical_stream}
 

@@ -6,7 +6,7 @@ use Rattle.pgw_tree.specs.declared.fault.FirstFault.{FirstFault}
 use Rattle.pgw_tree.specs.declared.fault.FirstFault.TheVariants.{BadStream, ReadFault, WriteFault}
 use Rattle.pgw_tree.specs.Tree.{Shape, Value}
 use Rattle.pgw_tree.specs.Spells.{Spells, SpellsPiece, SpellsRow}
-use Rattle.pgw_tree.specs.Format.{IsField, AreFields, trailer}
+use Rattle.pgw_copy.specs.Format.{IsField, AreFields, trailer}
 use Rattle.pgw_tree.specs.Stream.{AreRows}
 
 -- At Ok(x) the bytes taken have P x. `BadStream` comes only where no front of what was left has Q, and a fault only

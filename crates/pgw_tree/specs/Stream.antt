@@ -4,7 +4,7 @@ use Rattle.std.specs.List.{AllByRecursion}
 use Rattle.pgw_wire.specs.Cell.{Cell}
 use Rattle.pgw_tree.specs.Tree.{Shape, Value}
 use Rattle.pgw_tree.specs.Spells.{SpellsRow, FitsRow}
-use Rattle.pgw_tree.specs.Format.{IsHeader, IsRow, trailer}
+use Rattle.pgw_copy.specs.Format.{IsHeader, IsRow, trailer}
 
 -- rows, one behind the other, whose first cells spell these values
 abbrev pub AreRows : List Shape → List ℕ → List (List Value) → Type 0

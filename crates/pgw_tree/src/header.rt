@@ -1,7 +1,7 @@
 ghost use Rattle.std.specs.Prelude.{◌≡◌, ◌≤◌, ℕ, length, IfSome, IsNone};
 ghost use Rattle.pgw_wire.specs.Outside.{HasFailed};
 ghost use Rattle.pgw_tree.specs.Copying.{Reads};
-ghost use Rattle.pgw_tree.specs.Format.{IsFixedHeader, IsHeader};
+ghost use Rattle.pgw_copy.specs.Format.{IsFixedHeader, IsHeader};
 
 use crate::FirstFault;
 use crate::source::{NEGATIVE_LENGTH, fill, pass_over};

@@ -5,7 +5,7 @@ ghost use Rattle.pgw_wire.specs.Cell.{Cell, frame};
 ghost use Rattle.pgw_wire.specs.Outside.{HasFailed};
 ghost use Rattle.pgw_tree.specs.Tree.{Value, shape, shapes, int4, text};
 ghost use Rattle.pgw_tree.specs.Spells.{Spells, canonical_cell};
-ghost use Rattle.pgw_tree.specs.Format.{IsField, AreFields};
+ghost use Rattle.pgw_copy.specs.Format.{IsField, AreFields};
 ghost use Rattle.pgw_tree.specs.Canonical.{canonical_cells, canonical_row};
 ghost use Rattle.pgw_tree.specs.Copying.{Reads, IsPieceOf, IsFieldOf, AreFieldsOf, AreRowFields};
 

@@ -2,7 +2,7 @@ ghost use Rattle.std.specs.Prelude.{◌≡◌, ◌+◌, ◌-◌, ◌^◌, ◌<�
 ghost use Rattle.std.specs.Int.{to_be_bytes, w16, w32};
 ghost use Rattle.pgw_wire.specs.Outside.{HasFailed, Took, NoFront};
 ghost use Rattle.pgw_tree.specs.Copying.{Reads};
-ghost use Rattle.pgw_tree.specs.Format.{IsCount};
+ghost use Rattle.pgw_copy.specs.Format.{IsCount};
 
 use crate::FirstFault;
 use pgw_wire::{Source, take_u16, take_u32};

@@ -1,7 +1,7 @@
 use Rattle.std.proofs.Common.{rules, ◌∙◌, sym, arith}
 use Rattle.std.proofs.lemmas.Bool.Decides.{Decides-eqb}
 use Rattle.std.proofs.lemmas.Slice.Eq.{slice_eq-Decides}
-use Rattle.pgw_tree.proofs.Headers.{IsApart, fixed_header, no_fixed_header}
+use Rattle.pgw_copy.proofs.Headers.{IsApart, fixed_header, no_fixed_header}
 use Rattle.pgw_tree.proofs.header.extension_of.Goals as goal
 use Rattle.pgw_tree.proofs.header.extension_of.Goals.{After-eq, else-eq-via-then-eq+then-flags-lt-HIGH_HALF+else-extension-lt-NEGATIVE_LENGTH, else-eq-via-then-eq+else-flags-lt-HIGH_HALF, else-eq-via-else-eq}
 

@@ -1,6 +1,6 @@
 use Rattle.std.proofs.Common.{◌≡◌, ◌∙◌, ℕ, List, refl, sym, ap, arith, length, subst}
-use Rattle.pgw_tree.specs.Format.{IsFixedHeader}
-use Rattle.pgw_tree.proofs.Headers.{length-fixed, same_fixed, header_of, header_splits}
+use Rattle.pgw_copy.specs.Format.{IsFixedHeader}
+use Rattle.pgw_copy.proofs.Headers.{length-fixed, same_fixed, header_of, header_splits}
 use Rattle.pgw_tree.proofs.Reading.{exit, reads_first, reads_then, reads_refused}
 use Rattle.pgw_tree.proofs.header.take_header.Goals as goal
 

@@ -7,7 +7,7 @@ use Rattle.pgw_wire.proofs.Adding.{appends_then, gains_then, settled_then}
 use Rattle.pgw_tree.specs.Tree.{shapes}
 use Rattle.pgw_tree.specs.Canonical.{canonical_row}
 use Rattle.pgw_tree.specs.Copying.{IsEnded}
-use Rattle.pgw_tree.specs.Format.{IsCount}
+use Rattle.pgw_copy.specs.Format.{IsCount}
 use Rattle.pgw_tree.proofs.Ended.{HasEnd, HasRest, RowTaken, row_taken, ended, end_begins, count_splits, rest_begins, fields_split, full, none_before}
 use Rattle.pgw_tree.proofs.Reading.{exit, reads_later, reads_done, reads_refused_later, reads_sink_error}
 use Rattle.pgw_tree.proofs.recopy.copy_rows.Goals as goal

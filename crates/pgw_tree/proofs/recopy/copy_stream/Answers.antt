@@ -3,8 +3,8 @@ use Rattle.std.specs.List.{flat_map}
 use Rattle.pgw_wire.proofs.Taking.{took_then, took_both, no_front_then, no_front_begun}
 use Rattle.pgw_wire.proofs.Adding.{appends_then, appends_kept, appends_keeps, settled_then, gains_then, gains_both}
 use Rattle.pgw_tree.specs.Tree.{shapes}
-use Rattle.pgw_tree.specs.Format.{trailer}
-use Rattle.pgw_tree.specs.Canonical.{canonical_header, canonical_row, canonical_front, canonical_stream}
+use Rattle.pgw_copy.specs.Format.{canonical_header, trailer}
+use Rattle.pgw_tree.specs.Canonical.{canonical_row, canonical_front, canonical_stream}
 use Rattle.pgw_tree.proofs.Ended.{HasEnd}
 use Rattle.pgw_tree.proofs.Streams.{within, stream_of, stream_begins, stream_splits}
 use Rattle.pgw_tree.proofs.Reading.{exit, reads_first, reads_later, reads_done, reads_sink_error, reads_write_fault, begins_whole}

@@ -1,7 +1,7 @@
 use Rattle.std.proofs.Common.{rules, ◌≡◌, ◌++◌, length, refl, sym, ap, ◌∙◌, arith, length-append, append_assoc}
 use Rattle.std.proofs.lemmas.List.{length-take-le}
 use Rattle.pgw_wire.proofs.Taking.{took_then, took_weaker, no_front_then, no_front_begun}
-use Rattle.pgw_tree.proofs.Lists.{split_behind, begins_front, take_piece}
+use Rattle.pgw_copy.proofs.Lists.{split_behind, begins_front, take_piece}
 use Rattle.pgw_tree.proofs.Reading.{exit, reads_later, reads_done, reads_no_memory}
 use Rattle.pgw_tree.proofs.row.copy_bytes.Goals as goal
 

@@ -1,7 +1,7 @@
 use Rattle.std.proofs.Common.{◌∙◌, None, refl, sym, arith}
 use Rattle.pgw_wire.proofs.Taking.{took_weaker}
 use Rattle.pgw_tree.specs.Tree.{shape, null}
-use Rattle.pgw_tree.proofs.Fields.{begins_length}
+use Rattle.pgw_copy.proofs.Fields.{begins_length}
 use Rattle.pgw_tree.proofs.Pieces.{piece_joins, spelled_splits, negative_spells}
 use Rattle.pgw_tree.proofs.Reading.{exit, reads_first, reads_then, reads_done, reads_refused}
 use Rattle.pgw_tree.proofs.row.copy_field.Goals as goal

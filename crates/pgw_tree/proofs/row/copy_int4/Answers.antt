@@ -4,7 +4,7 @@ use Rattle.pgw_tree.specs.Spells.{SpellsInt4, SpellsPiece}
 use Rattle.std.specs.Int.{to_be_bytes, cast_unsigned, w32}
 use Rattle.std.proofs.lemmas.Int.{to_z-of_z}
 use Rattle.pgw_wire.proofs.Taking.{took_weaker}
-use Rattle.pgw_tree.proofs.Numbers.{whole_4}
+use Rattle.pgw_copy.proofs.Numbers.{whole_4}
 use Rattle.pgw_tree.proofs.Pieces.{frame_appended}
 use Rattle.pgw_tree.proofs.Reading.{exit, reads_first, reads_done, begins_whole}
 use Rattle.pgw_tree.proofs.row.copy_int4.Goals as goal

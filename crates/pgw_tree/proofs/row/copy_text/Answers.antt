@@ -3,7 +3,7 @@ use Rattle.std.specs.Str.{is_utf8}
 use Rattle.std.proofs.lemmas.Str.{IsUtf8-from_is_utf8, is_utf8-from_IsUtf8}
 use Rattle.pgw_tree.specs.Tree.{string}
 use Rattle.pgw_wire.proofs.Taking.{took_weaker}
-use Rattle.pgw_tree.proofs.Lists.{same_front, tail_of}
+use Rattle.pgw_copy.proofs.Lists.{same_front, tail_of}
 use Rattle.pgw_tree.proofs.Pieces.{frame_appended}
 use Rattle.pgw_tree.proofs.Reading.{exit, reads_first, reads_done, reads_refused, begins_whole}
 use Rattle.pgw_tree.proofs.row.copy_text.Goals as goal

@@ -1,6 +1,6 @@
 use Rattle.std.proofs.Common.{refl, arith}
 use Rattle.pgw_wire.proofs.Taking.{took_weaker}
-use Rattle.pgw_tree.proofs.Fields.{begins_length, piece_splits, piece_field, null_field}
+use Rattle.pgw_copy.proofs.Fields.{begins_length, piece_splits, piece_field, null_field}
 use Rattle.pgw_tree.proofs.Reading.{exit, reads_first, reads_then, reads_done}
 use Rattle.pgw_tree.proofs.row.pass_field.Goals as goal
 

@@ -1,6 +1,6 @@
 use Rattle.std.proofs.Common.{rules, ◌-◌, ◌+◌, ◌++◌, ℕ, List, [], refl, sym, arith, subst, append_assoc, append-nil}
 use Rattle.pgw_wire.proofs.Taking.{took_then, took_weaker, no_front_then, no_front_begun}
-use Rattle.pgw_tree.proofs.Fields.{AreSomeFields, fields_more, no_fields, fields_split, fields_begin}
+use Rattle.pgw_copy.proofs.Fields.{AreSomeFields, fields_more, no_fields, fields_split, fields_begin}
 use Rattle.pgw_tree.proofs.Reading.{exit, reads_later, reads_done}
 use Rattle.pgw_tree.proofs.row.pass_fields.Goals as goal
 

@@ -1,6 +1,6 @@
 use Rattle.std.proofs.Common.{◌≡◌, ◌≤◌, ◌-◌, ◌++◌, ℕ, List}
 use Rattle.pgw_wire.specs.Outside.{Took, NoFront}
-use Rattle.pgw_tree.proofs.Fields.{AreSomeFields}
+use Rattle.pgw_copy.proofs.Fields.{AreSomeFields}
 use Rattle.pgw_tree.proofs.row.pass_fields.Given as goal
 
 -- What was taken and as many fields as are left are all the fields.

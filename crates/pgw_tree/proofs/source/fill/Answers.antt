@@ -2,7 +2,7 @@ use Rattle.std.proofs.Common.{rules, ◌≡◌, Ok, length, ◌++◌, take, arit
 use Rattle.std.specs.Prelude.{⊤}
 use Rattle.std.proofs.lemmas.List.{length-take-le, take_all}
 use Rattle.pgw_wire.proofs.Taking.{took_then, took_both, took_weaker, took_consumed, took_kept}
-use Rattle.pgw_tree.proofs.Lists.{filled_more, front_short}
+use Rattle.pgw_copy.proofs.Lists.{filled_more, front_short}
 use Rattle.pgw_tree.proofs.Reading.{reads_done, reads_read_fault, reads_ended}
 use Rattle.pgw_tree.proofs.source.fill.Goals as goal
 

@@ -1,8 +1,8 @@
 use Rattle.std.proofs.Common.{◌∙◌, ℕ, List, refl, sym, ap, length, subst}
 use Rattle.std.proofs.lemmas.Result.{IfOk-weaker, IfErr-weaker}
-use Rattle.pgw_tree.specs.Format.{IsCount}
-use Rattle.pgw_tree.proofs.Lists.{same_front}
-use Rattle.pgw_tree.proofs.Numbers.{length-count, whole_2}
+use Rattle.pgw_copy.specs.Format.{IsCount}
+use Rattle.pgw_copy.proofs.Lists.{same_front}
+use Rattle.pgw_copy.proofs.Numbers.{length-count, whole_2}
 use Rattle.pgw_tree.proofs.Reading.{exit, reads_first, reads_tested, begins_whole}
 use Rattle.pgw_tree.proofs.source.next_count.Goals as goal
 

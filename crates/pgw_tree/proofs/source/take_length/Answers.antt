@@ -1,6 +1,6 @@
 use Rattle.std.proofs.Common.{◌∙◌, refl}
 use Rattle.pgw_wire.proofs.Taking.{took_weaker}
-use Rattle.pgw_tree.proofs.Numbers.{whole_4}
+use Rattle.pgw_copy.proofs.Numbers.{whole_4}
 use Rattle.pgw_tree.proofs.Reading.{reads_done}
 use Rattle.pgw_tree.proofs.source.take_length.Goals as goal
 

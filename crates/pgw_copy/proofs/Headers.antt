@@ -1,9 +1,12 @@
 -- The first 19 bytes of a header, taken apart.
-use Rattle.std.proofs.Common.{◌≡◌, ℕ, ◌<◌, ◌^◌, List, [], ◌++◌, length, refl, sym, ap, ◌∙◌, arith, append_assoc, append-nil, length-append, subst}
+use Rattle.std.proofs.Common.{◌≡◌, ℕ, ◌<◌, ◌≤◌, ◌^◌, List, [], ◌++◌, length, refl, sym, ap, ◌∙◌, arith, append_assoc, append-nil, length-append, subst, inl, inr}
 use Rattle.std.specs.Int.{to_be_bytes, w32}
-use Rattle.pgw_tree.specs.Format.{magic, IsFixedHeader, IsHeader}
-use Rattle.pgw_tree.proofs.Lists.{same_front, same_rest}
-use Rattle.pgw_tree.proofs.Numbers.{same_number_4, whole_4}
+use Rattle.pgw_copy.specs.declared.fault.CopyReadError.{CopyReadError}
+use Rattle.pgw_copy.specs.declared.fault.CopyReadError.TheVariants.{BadHeader, BadFlags, Truncated, BadFieldCount, ReadFault, NoMemory}
+use Rattle.pgw_copy.specs.Format.{magic, IsFixedHeader, IsHeader}
+use Rattle.pgw_copy.specs.Reader.{cut_fault, IsShort, HasNegativeExtension, fixed_fault, header_fault}
+use Rattle.pgw_copy.proofs.Lists.{same_front, same_rest}
+use Rattle.pgw_copy.proofs.Numbers.{same_number_4, whole_4}
 
 -- a magic and two numbers of four bytes in front
 pub record IsApart (fixed m : List ℕ) (flags extension : ℕ) : Type 0 where
@@ -82,3 +85,46 @@ header_splits x behind front rest e f h is =
       sym (same_extension x e (length h.extension) f (subst (λ (l : List ℕ). IsFixedHeader l (length h.extension)) (sym same) h.begins)),
       h.is ∙ ap (λ l. l ++ h.extension) (sym same),
     )
+
+-- What begins with other bytes than the magic begins no stream.
+pub other_magic : (fixed m : List ℕ) (f e : ℕ) → IsApart fixed m f e → (m ≡ magic → ⊥) → (rest : List ℕ) → fixed ≡ magic ++ rest → ⊥
+other_magic fixed m f e a other rest is = other (same_front m magic a.behind rest a.long (sym a.first ∙ is))
+
+-- what is taken apart so has an extension of negative length
+pub negative_extension : (fixed m : List ℕ) (f e : ℕ) → length fixed ≡ 19 → IsApart fixed m f e → m ≡ magic → f < 2 ^ 16 → 2 ^ 31 ≤ e → HasNegativeExtension fixed
+negative_extension fixed m f e nineteen a is low negative =
+    let four : length a.numbers ≡ 4 = omega (arith, nineteen, a.long, ap length a.first, ap length a.second, length-append m a.behind, length-append (to_be_bytes w32 f) a.numbers) in
+    let number = whole_4 a.numbers a.rest e a.third four in
+    record {
+      flags = f;
+      extension = e;
+      low = low;
+      negative = negative;
+      fits = a.extension_fits;
+      is = a.first ∙ ap (λ l. l ++ a.behind) is ∙ ap (λ l. magic ++ l) (a.second ∙ ap (λ l. to_be_bytes w32 f ++ l) number) ∙ sym (append_assoc magic (to_be_bytes w32 f) (to_be_bytes w32 e));
+    }
+
+-- what each error of the parts of a header says of the whole
+pub short_header : (e : CopyReadError) (bytes : List ℕ) → cut_fault (IsShort 19) e bytes → header_fault e bytes
+short_header BadHeader bytes h = absurd h
+short_header (BadFlags flags) bytes h = absurd h
+short_header Truncated bytes h = inl h
+short_header (BadFieldCount count) bytes h = h
+short_header ReadFault bytes h = inl h
+short_header NoMemory bytes h = tt
+
+pub refused_header : (e : CopyReadError) (bytes : List ℕ) → fixed_fault e bytes → header_fault e bytes
+refused_header BadHeader bytes h = h
+refused_header (BadFlags flags) bytes h = h
+refused_header Truncated bytes h = absurd h
+refused_header (BadFieldCount count) bytes h = h
+refused_header ReadFault bytes h = absurd h
+refused_header NoMemory bytes h = tt
+
+pub short_extension : (e : CopyReadError) (x y : List ℕ) (extension : ℕ) → IsFixedHeader x extension → cut_fault (IsShort extension) e y → header_fault e (x ++ y)
+short_extension BadHeader x y extension f h = absurd h
+short_extension (BadFlags flags) x y extension f h = absurd h
+short_extension Truncated x y extension f h = inr (x, y, extension, f, refl, h)
+short_extension (BadFieldCount count) x y extension f h = h
+short_extension ReadFault x y extension f h = inr (x, y, extension, f, refl, h)
+short_extension NoMemory x y extension f h = tt

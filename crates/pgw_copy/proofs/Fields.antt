@@ -1,10 +1,11 @@
 -- The fields of a row, taken apart.
-use Rattle.std.proofs.Common.{◌≡◌, ℕ, ◌+◌, ◌<◌, ◌≤◌, ◌^◌, List, [], ◌∷◌, ◌++◌, length, None, Some, refl, sym, ap, ◌∙◌, arith, append_assoc, append-nil, subst}
+use Rattle.std.proofs.Common.{◌≡◌, ℕ, ◌+◌, ◌<◌, ◌≤◌, ◌^◌, List, [], ◌∷◌, ◌++◌, length, None, Some, refl, sym, ap, ◌∙◌, arith, append_assoc, append-nil, length-append, subst}
 use Rattle.std.specs.Int.{to_be_bytes, w32}
 use Rattle.pgw_wire.specs.Cell.{Cell}
-use Rattle.pgw_tree.specs.Format.{IsField, AreFields}
-use Rattle.pgw_tree.proofs.Lists.{same_front, same_rest}
-use Rattle.pgw_tree.proofs.Numbers.{same_number_4}
+use Rattle.pgw_copy.specs.Format.{IsField, AreFields}
+use Rattle.pgw_copy.specs.Reader.{IsCutField, AreCutFields}
+use Rattle.pgw_copy.proofs.Lists.{same_front, same_rest}
+use Rattle.pgw_copy.proofs.Numbers.{same_number_4}
 
 -- what a length says of the cell and of the bytes behind it
 abbrev pub Says : ℕ → Cell → List ℕ → Type 0
@@ -64,9 +65,13 @@ field_null word x behind front rest cell negative fits is h e =
 pub piece_splits : (word : ℕ) (x behind front rest : List ℕ) → word < 2 ^ 31 → x ≡ to_be_bytes w32 word → (cell : Cell) × IsField cell front → x ++ behind ≡ front ++ rest → (y : List ℕ) × (length y ≡ word) × (front ≡ x ++ y)
 piece_splits word x behind front rest short is h e = let p = field_piece word x behind front rest h.0 short is h.1 e in (p.0, p.2, p.3)
 
+-- A length and a piece of that length are the piece's field.
+pub field_of_piece : (word : ℕ) (x y : List ℕ) → word < 2 ^ 31 → x ≡ to_be_bytes w32 word → length y ≡ word → IsField (Some y) (x ++ y)
+field_of_piece word x y short is long =
+    (subst (λ (n : ℕ). n < 2 ^ 31) (sym long) short, ap (λ l. l ++ y) (is ∙ ap (to_be_bytes w32) (sym long)))
+
 pub piece_field : (word : ℕ) (x y : List ℕ) → word < 2 ^ 31 → x ≡ to_be_bytes w32 word → length y ≡ word → (cell : Cell) × IsField cell (x ++ y)
-piece_field word x y short is long =
-    (Some y, (subst (λ (n : ℕ). n < 2 ^ 31) (sym long) short, ap (λ l. l ++ y) (is ∙ ap (to_be_bytes w32) (sym long))))
+piece_field word x y short is long = (Some y, field_of_piece word x y short is long)
 
 pub null_field : (word : ℕ) (x : List ℕ) → 2 ^ 31 ≤ word → word < 2 ^ 32 → x ≡ to_be_bytes w32 word → (cell : Cell) × IsField cell x
 null_field word x negative fits is = (None, (word, negative, fits, is))
@@ -112,3 +117,35 @@ fields_split n k x behind front rest more field (c ∷ cs, many, each) e =
 pub fields_begin : (n k : ℕ) (front : List ℕ) → n ≡ k + 1 → AreSomeFields n front → (x : List ℕ) × (y : List ℕ) × ((cell : Cell) × IsField cell x) × (front ≡ x ++ y)
 fields_begin n k front more ([], many, each) = absurd (omega (arith, more, many))
 fields_begin n k front more (c ∷ cs, many, each) = (each.0, each.1, (c, each.2), each.4)
+
+-- A field has the four bytes of its length.
+pub short_field : (bytes : List ℕ) → length bytes < 4 → IsCutField bytes
+short_field bytes short cell field behind h e =
+    let b = begins_length cell field h in
+    omega (arith, short, ap length e, length-append field behind, ap length b.3, length-append b.0 b.1, b.2)
+
+-- A field that states more bytes than there are ends too early.
+pub short_piece : (word : ℕ) (x y : List ℕ) → word < 2 ^ 31 → x ≡ to_be_bytes w32 word → length y < word → IsCutField (x ++ y)
+short_piece word x y low is short cell field behind h e =
+    let p = field_piece word x y field behind cell low is h e in
+    omega (arith, short, ap length e, length-append x y, length-append field behind, ap length p.3, length-append x p.0, p.2)
+
+-- Fields, and then the beginning of one, are not so many fields and one more.
+pub cut_behind : (cells others : List Cell) (x y fields behind : List ℕ) → length cells < length others → AreFields cells x → IsCutField y → AreFields others fields → x ++ y ≡ fields ++ behind → ⊥
+cut_behind [] [] x y fields behind more each cut each' e = omega (arith, more)
+cut_behind [] (o ∷ os) x y fields behind more each cut each' e =
+    cut o each'.0 (each'.1 ++ behind) each'.2 (ap (λ l. l ++ y) (sym each) ∙ e ∙ ap (λ l. l ++ behind) each'.4 ∙ append_assoc each'.0 each'.1 behind)
+cut_behind (c ∷ cs) [] x y fields behind more each cut each' e = omega (arith, more)
+cut_behind (c ∷ cs) (o ∷ os) x y fields behind more each cut each' e =
+    let whole = sym (append_assoc each.0 each.1 y) ∙ ap (λ l. l ++ y) (sym each.4) ∙ e ∙ ap (λ l. l ++ behind) each'.4 ∙ append_assoc each'.0 each'.1 behind in
+    let first = field_once c o each.0 each'.0 (each.1 ++ y) (each'.1 ++ behind) each.2 each'.2 whole in
+    cut_behind cs os each.1 y each'.1 behind (omega (arith, more)) each.3 cut each'.3 (same_rest each.0 each'.0 (each.1 ++ y) (each'.1 ++ behind) (ap length first) whole)
+
+pub cut_fields : (count : ℕ) (cells : List Cell) (x y : List ℕ) → length cells < count → AreFields cells x → IsCutField y → AreCutFields count (x ++ y)
+cut_fields count cells x y more each cut others fields behind many each' e = cut_behind cells others x y fields behind (omega (arith, more, many)) each cut each' e
+
+-- one field more behind the others
+pub fields_append : (cells : List Cell) (c : Cell) (x y : List ℕ) → AreFields cells x → IsField c y → AreFields (cells ++ (c ∷ [])) (x ++ y)
+fields_append [] c x y each field = (y, [], field, refl, ap (λ l. l ++ y) each ∙ sym (append-nil y))
+fields_append (d ∷ ds) c x y each field =
+    (each.0, each.1 ++ y, each.2, fields_append ds c each.1 y each.3 field, ap (λ l. l ++ y) each.4 ∙ append_assoc each.0 each.1 y)

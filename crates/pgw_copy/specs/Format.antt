@@ -22,6 +22,10 @@ pub record IsHeader (bytes : List ℕ) : Type 0 where
   pub begins : IsFixedHeader fixed (length extension)
   pub is : bytes ≡ fixed ++ extension
 
+-- the one header that is written: no flag and no extension
+abbrev pub canonical_header : List ℕ
+canonical_header = magic ++ to_be_bytes w32 0 ++ to_be_bytes w32 0
+
 -- the beginning of a header that ends too early: within its first 19 bytes, or within the extension
 abbrev pub IsCutHeader : List ℕ → Type 0
 IsCutHeader bytes = (length bytes < 19) ⊎ ((fixed : List ℕ) × (rest : List ℕ) × (extension : ℕ) × IsFixedHeader fixed extension × (bytes ≡ fixed ++ rest) × (length rest < extension))

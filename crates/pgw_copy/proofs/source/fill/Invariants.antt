@@ -1,0 +1,14 @@
+use Rattle.std.proofs.Common.{◌≡◌, ◌≤◌, ◌-◌, length, take}
+use Rattle.pgw_wire.specs.Outside.{Took}
+use Rattle.pgw_copy.proofs.source.fill.Given as goal
+
+abbrev pub invariant-loop-filled : goal.invariant-loop-filled
+invariant-loop-filled g l = record {
+  within : l.filled ≤ length l.buf;
+  took : Took (g.S.Source.left l.fn.source) (g.S.Source.left l.source) (λ taken. taken ≡ take l.filled l.buf);
+  faults : g.S.Source.fault_count l.fn.source ≤ g.S.Source.fault_count l.source;
+  origin : g.S.Source.origin l.source ≡ g.S.Source.origin l.fn.source;
+}
+
+abbrev pub decreases-loop-filled : goal.decreases-loop-filled
+decreases-loop-filled g l = length l.initial.buf - l.filled

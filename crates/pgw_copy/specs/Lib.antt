@@ -1,0 +1,5 @@
+pub mod Format
+pub mod Places
+pub mod Reader
+pub mod State
+pub mod Writer

@@ -1,0 +1,103 @@
+-- What a call that reads a part of a stream takes, and what each of its errors says of the bytes that were taken.
+use Rattle.std.specs.Prelude.{◌≡◌, ◌⊎◌, ⊤, ℕ, ℤ, ◌<◌, ◌≤◌, ◌-◌, ◌^◌, List, ◌++◌, length, Option, None, Some, Result, Ok, Err}
+use Rattle.std.specs.Int.{to_be_bytes, cast_unsigned, w16, w32}
+use Rattle.std.specs.Io.KnownBytes.{IsAtEnd}
+use Rattle.pgw_wire.specs.Cell.{Cell}
+use Rattle.pgw_wire.specs.Outside.{Took}
+use Rattle.pgw_copy.specs.Format.{magic, IsCutHeader, AreFields, IsField, IsRow, IsCutRow, trailer}
+use Rattle.pgw_copy.specs.declared.fault.CopyReadError.{CopyReadError}
+use Rattle.pgw_copy.specs.declared.fault.CopyReadError.TheVariants.{BadHeader, BadFlags, Truncated, BadFieldCount, ReadFault, NoMemory}
+
+-- At Ok(x) the bytes taken have P x, and at an error what the error says of them. `Truncated` comes only at the end of
+-- the source, and `ReadFault` only where the source failed.
+pub record Takes {X : Type 0} (before now : Option (List ℕ)) (failed : Type 0) (result : Result X CopyReadError) (P : X → List ℕ → Type 0) (Fault : CopyReadError → List ℕ → Type 0) : Type 0 where
+  pub ok : (x : X) → result ≡ Ok x → Took before now (P x)
+  pub err : (e : CopyReadError) → result ≡ Err e → Took before now (Fault e)
+  pub at_end : result ≡ Err Truncated → IsAtEnd now
+  pub has_failed : result ≡ Err ReadFault → failed
+
+-- Where a call stops at the end or at a fault of the source, what was taken has Cut. It answers no other error but want
+-- of memory.
+abbrev pub cut_fault : (List ℕ → Type 0) → CopyReadError → List ℕ → Type 0
+cut_fault Cut BadHeader bytes = ⊥
+cut_fault Cut (BadFlags flags) bytes = ⊥
+cut_fault Cut Truncated bytes = Cut bytes
+cut_fault Cut (BadFieldCount count) bytes = ⊥
+cut_fault Cut ReadFault bytes = Cut bytes
+cut_fault Cut NoMemory bytes = ⊤
+
+abbrev pub IsShort : ℕ → List ℕ → Type 0
+IsShort size bytes = length bytes < size
+
+-- what every stream begins with, flags whose high half is 0, and a negative length of the extension
+pub record HasNegativeExtension (bytes : List ℕ) : Type 0 where
+  pub flags : ℕ
+  pub extension : ℕ
+  pub low : flags < 2 ^ 16
+  pub negative : 2 ^ 31 ≤ extension
+  pub fits : extension < 2 ^ 32
+  pub is : bytes ≡ magic ++ to_be_bytes w32 flags ++ to_be_bytes w32 extension
+
+-- 19 bytes that begin with other bytes than a stream, or state such a length
+abbrev pub IsBadHeader : List ℕ → Type 0
+IsBadHeader bytes = (length bytes ≡ 19) × (((rest : List ℕ) → bytes ≡ magic ++ rest → ⊥) ⊎ HasNegativeExtension bytes)
+
+-- 19 bytes that begin as a stream does, with these flags, of which the high half is not 0
+pub record HasHighFlags (flags : ℕ) (bytes : List ℕ) : Type 0 where
+  pub rest : List ℕ
+  pub high : 2 ^ 16 ≤ flags
+  pub fits : flags < 2 ^ 32
+  pub four : length rest ≡ 4
+  pub is : bytes ≡ magic ++ to_be_bytes w32 flags ++ rest
+
+abbrev pub header_fault : CopyReadError → List ℕ → Type 0
+header_fault BadHeader bytes = IsBadHeader bytes
+header_fault (BadFlags flags) bytes = HasHighFlags flags bytes
+header_fault Truncated bytes = IsCutHeader bytes
+header_fault (BadFieldCount count) bytes = ⊥
+header_fault ReadFault bytes = IsCutHeader bytes
+header_fault NoMemory bytes = ⊤
+
+-- what an error says of the 19 bytes that could begin a header
+abbrev pub fixed_fault : CopyReadError → List ℕ → Type 0
+fixed_fault BadHeader bytes = IsBadHeader bytes
+fixed_fault (BadFlags flags) bytes = HasHighFlags flags bytes
+fixed_fault Truncated bytes = ⊥
+fixed_fault (BadFieldCount count) bytes = ⊥
+fixed_fault ReadFault bytes = ⊥
+fixed_fault NoMemory bytes = ⊥
+
+-- the two bytes of a count below -1: without its sign it is from 2 ^ 15 on, and not the largest
+pub record IsBadCount (count : ℤ) (bytes : List ℕ) : Type 0 where
+  pub negative : 2 ^ 15 ≤ cast_unsigned w16 count
+  pub below : cast_unsigned w16 count < 2 ^ 16 - 1
+  pub is : bytes ≡ to_be_bytes w16 (cast_unsigned w16 count)
+
+abbrev pub count_fault : CopyReadError → List ℕ → Type 0
+count_fault BadHeader bytes = ⊥
+count_fault (BadFlags flags) bytes = ⊥
+count_fault Truncated bytes = IsShort 2 bytes
+count_fault (BadFieldCount count) bytes = IsBadCount count bytes
+count_fault ReadFault bytes = IsShort 2 bytes
+count_fault NoMemory bytes = ⊤
+
+-- bytes that end before a field is whole
+abbrev pub IsCutField : List ℕ → Type 0
+IsCutField bytes = (cell : Cell) (field behind : List ℕ) → IsField cell field → bytes ≡ field ++ behind → ⊥
+
+-- bytes that end before this many fields are whole
+abbrev pub AreCutFields : ℕ → List ℕ → Type 0
+AreCutFields count bytes = (cells : List Cell) (fields behind : List ℕ) → length cells ≡ count → AreFields cells fields → bytes ≡ fields ++ behind → ⊥
+
+-- what the bytes of a row, or of the end of a stream, hold
+abbrev pub IsRowOrEnd : Option (List Cell) → List ℕ → Type 0
+IsRowOrEnd None bytes = bytes ≡ trailer
+IsRowOrEnd (Some cells) bytes = IsRow cells bytes
+
+abbrev pub row_fault : CopyReadError → List ℕ → Type 0
+row_fault BadHeader bytes = ⊥
+row_fault (BadFlags flags) bytes = ⊥
+row_fault Truncated bytes = IsCutRow bytes
+row_fault (BadFieldCount count) bytes = IsBadCount count bytes
+row_fault ReadFault bytes = IsCutRow bytes
+row_fault NoMemory bytes = ⊤

@@ -1,0 +1,16 @@
+//! Readers and writers of binary COPY streams, field by field and without types.
+#![tactic(auto)]
+
+mod fault;
+mod header;
+mod reader;
+mod row;
+mod source;
+#[cfg(test)]
+mod tests;
+mod writer;
+
+pub use fault::CopyReadError;
+pub use reader::CopyReader;
+pub use row::RawRow;
+pub use writer::CopyWriter;

@@ -1,0 +1,91 @@
+ghost use Rattle.std.specs.Prelude.{◌≡◌, ◌≢◌, IfErr, ◌+◌, ◌^◌, ◌<◌, ◌≤◌, ◌++◌, length, List, ℕ, OnOk};
+ghost use Rattle.std.specs.Int.{to_be_bytes, w32};
+ghost use Rattle.pgw_wire.specs.Outside.{HasFailed};
+ghost use Rattle.pgw_copy.specs.Reader.{Takes, cut_fault, IsShort};
+
+use crate::CopyReadError;
+use pgw_wire::{ByteBuffer, Source, take_u32};
+
+/// How many bytes are taken at once where they are many.
+const CHUNK: usize = 512;
+
+/// Fills the buffer with the next bytes of the source.
+pub(crate) fn fill<S: Source>(source: &mut S, buf: &mut [u8]) -> Result<(), CopyReadError>
+    ensures memory { IfErr result (λ e. e ≢ CopyReadError.NoMemory) }
+    ensures takes { Takes (S.left source.old) (S.left source.new)
+        (HasFailed (S.fault_count source.old) (S.fault_count source.new))
+        result (λ _ taken. taken ≡ buf.new) (cut_fault (IsShort (length buf.old))) }
+    ensures faults { S.fault_count source.old ≤ S.fault_count source.new }
+    ensures origin { S.origin source.new ≡ S.origin source.old }
+{
+    let mut filled = 0;
+    while filled < buf.len() {
+        match source.read(&mut buf[filled..]) {
+            Ok(0) => return Err(CopyReadError::Truncated),
+            Ok(n) => filled += n,
+            Err(_) => return Err(CopyReadError::ReadFault),
+        }
+    }
+    Ok(())
+}
+
+/// Takes the next `len` bytes and keeps none of them.
+pub(crate) fn pass_over<S: Source>(source: &mut S, len: usize) -> Result<(), CopyReadError>
+    ensures memory { IfErr result (λ e. e ≢ CopyReadError.NoMemory) }
+    ensures takes { Takes (S.left source.old) (S.left source.new)
+        (HasFailed (S.fault_count source.old) (S.fault_count source.new))
+        result (λ _ taken. length taken ≡ len) (cut_fault (IsShort len)) }
+    ensures faults { S.fault_count source.old ≤ S.fault_count source.new }
+    ensures origin { S.origin source.new ≡ S.origin source.old }
+{
+    let mut chunk = [0; CHUNK];
+    let chunk = &mut chunk[..];
+    let mut left = len;
+    while left > 0 {
+        let next = left.min(CHUNK);
+        fill(source, &mut chunk[..next])?;
+        left -= next;
+    }
+    Ok(())
+}
+
+/// Takes the next `len` bytes, and appends them as they come.
+pub(crate) fn take_bytes<S: Source>(
+    source: &mut S,
+    len: usize,
+    bytes: &mut ByteBuffer,
+) -> Result<(), CopyReadError>
+    ensures takes { Takes (S.left source.old) (S.left source.new)
+        (HasFailed (S.fault_count source.old) (S.fault_count source.new))
+        result
+        (λ _ taken. (length taken ≡ len) × (bytes.new.bytes ≡ bytes.old.bytes ++ taken)) (cut_fault (IsShort len)) }
+    ensures kept { length bytes.old.bytes ≤ length bytes.new.bytes }
+    ensures grown { OnOk result (length bytes.new.bytes ≡ length bytes.old.bytes + len) }
+    ensures faults { S.fault_count source.old ≤ S.fault_count source.new }
+    ensures origin { S.origin source.new ≡ S.origin source.old }
+{
+    let mut chunk = [0; CHUNK];
+    let chunk = &mut chunk[..];
+    let mut left = len;
+    while left > 0 {
+        let next = left.min(CHUNK);
+        fill(source, &mut chunk[..next])?;
+        bytes.push_all(&chunk[..next])?;
+        left -= next;
+    }
+    Ok(())
+}
+
+/// Takes the length of a field, whose two's complement it answers as it stands: from 2^31 on it is negative.
+pub(crate) fn take_length<S: Source>(source: &mut S) -> Result<u32, CopyReadError>
+    ensures takes { Takes (S.left source.old) (S.left source.new)
+        (HasFailed (S.fault_count source.old) (S.fault_count source.new))
+        result (λ n taken. (n < 2 ^ 32) × (taken ≡ to_be_bytes w32 n)) (cut_fault (IsShort 4)) }
+    ensures faults { S.fault_count source.old ≤ S.fault_count source.new }
+    ensures origin { S.origin source.new ≡ S.origin source.old }
+{
+    let mut bytes = [0; 4];
+    fill(source, &mut bytes)?;
+    let (length, _) = take_u32(&bytes).unwrap();
+    Ok(length)
+}
