@@ -128,7 +128,7 @@ count_of_row ReadFault bytes h = inl h
 count_of_row NoMemory bytes h = tt
 
 -- A count, and fields that end too early, are a row that does.
-cut_row : (n : ℕ) (x y : List ℕ) → IsCount (Some n) x → AreCutFields n y → IsCutRow (x ++ y)
+pub cut_row : (n : ℕ) (x y : List ℕ) → IsCount (Some n) x → AreCutFields n y → IsCutRow (x ++ y)
 cut_row n x y count cut =
     inr (
       n,

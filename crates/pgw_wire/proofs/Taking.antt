@@ -81,7 +81,7 @@ no_front_taken {a = a} t clash = record {
       clash x.taken x.rest front rest x.has r (sym x.left_is ∙ s);
 }
 
-ended : (b : Option (List ℕ)) (rest : List ℕ) → IsAtEnd b → b ≡ Some rest → rest ≡ []
+pub ended : (b : Option (List ℕ)) (rest : List ℕ) → IsAtEnd b → b ≡ Some rest → rest ≡ []
 ended None rest end is = absurd (cc)
 ended (Some xs) rest end is = let same : xs ≡ rest = cc in sym same ∙ end
 
