@@ -1,3 +1,7 @@
 pub mod Kept
+pub mod Options
+pub mod SeenWords
 pub mod Sending
-pub mod Typed
+pub mod Told
+pub mod Worked
+pub mod WorkedWords

@@ -1,2 +1,3 @@
 pub mod Report
+pub mod Seen
 pub mod Words

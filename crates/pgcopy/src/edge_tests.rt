@@ -47,7 +47,7 @@ fn what_came_of_a_copy_is_told(rt: HostRuntime) {
     }
     let table: [(&[u8], Status, &[u8]); 2] = [
         (ONE_ROW, Status::Copied, b"rows 1\n"),
-        (&ONE_ROW[..29], Status::Refused, b"bad stream\n"),
+        (&ONE_ROW[..29], Status::Refused, b"truncated\n"),
     ];
     for (input, status, line) in table {
         let mut output = Vec::<u8>::new(alloc);

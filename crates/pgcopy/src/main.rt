@@ -10,6 +10,8 @@ mod run;
 #[cfg(test)]
 mod tests;
 mod words;
+#[cfg(test)]
+mod words_tests;
 
 use std::process::ExitCode;
 

@@ -2,11 +2,15 @@ ghost use Rattle.std.specs.Prelude.{◌≡◌, ℕ, ◌≤◌, ◌++◌, codes, 
 ghost use Rattle.std.specs.List.{flat_map};
 ghost use Rattle.std.specs.Io.KnownBytes.{Appends};
 ghost use Rattle.pgw_wire.specs.Outside.{HasFailed};
-ghost use Rattle.pgcopy.specs.Report.{code_of, status_of, fault_text, outcome_text, line_of, GainsUnlessFailed};
+ghost use Rattle.pgcopy.specs.Report.{code_of, fault_status, status_of, fault_text, flags_text, kind_text, field_text, copy_fault_text, line_of, GainsUnlessFailed};
 
 use crate::words::WordFault;
 use itoa::Buffer;
-use pgw_wire::{Failed, Sink};
+use pgw_tree::CopyFault;
+use pgw_wire::{Break, Failed, Sink};
+
+/// The hexadecimal digits, each at the place of its value.
+const DIGITS: [u8; 16] = *b"0123456789ABCDEF";
 
 /// What a run ended with.
 #[derive(Clone, Copy, Debug, PartialEq, Eq)]
@@ -41,6 +45,24 @@ impl Status {
     }
 }
 
+/// What a run ended with where the stream was not copied.
+fn fault_status(fault: CopyFault) -> Status
+    ensures { result ≡ fault_status fault }
+{
+    match fault {
+        CopyFault::ReadFault | CopyFault::WriteFault => Status::Outside,
+        CopyFault::NoMemory => Status::NoMemory,
+        CopyFault::BadHeader
+        | CopyFault::BadFlags(_)
+        | CopyFault::Truncated
+        | CopyFault::BadFieldCount(_)
+        | CopyFault::UnexpectedEndOfRow { .. }
+        | CopyFault::BadValue { .. }
+        | CopyFault::TooLong { .. }
+        | CopyFault::RowLimit => Status::Refused,
+    }
+}
+
 /// What a run came to.
 #[derive(Clone, Copy, Debug, PartialEq, Eq)]
 pub enum Outcome {
@@ -48,14 +70,8 @@ pub enum Outcome {
     Copied(u64),
     /// What is wrong with the words, and the place of the word.
     BadWord { place: usize, fault: WordFault },
-    /// What was read is no stream of the columns.
-    BadStream,
-    /// The source failed.
-    ReadFault,
-    /// The sink failed.
-    WriteFault,
-    /// Memory was asked for and refused.
-    NoMemory,
+    /// Why the stream was not copied. `NoMemory` is want of memory in the words too.
+    Fault(CopyFault),
 }
 
 impl Outcome {
@@ -65,9 +81,7 @@ impl Outcome {
         match self {
             Outcome::Copied(_) => Status::Copied,
             Outcome::BadWord { .. } => Status::Words,
-            Outcome::BadStream => Status::Refused,
-            Outcome::ReadFault | Outcome::WriteFault => Status::Outside,
-            Outcome::NoMemory => Status::NoMemory,
+            Outcome::Fault(fault) => fault_status(fault),
         }
     }
 }
@@ -100,16 +114,100 @@ fn send_all<N: Sink>(notes: &mut N, pieces: &[&[u8]])
     }
 }
 
-/// What a fault is called, and behind that its number, where it has one.
+/// What a fault of the words is called, and behind that its number, where it has one.
 fn fault_text<'a>(fault: WordFault, number: &'a mut Buffer) -> (&'static [u8], &'a [u8])
     ensures { result.0.now ++ result.1.now ≡ fault_text fault }
 {
     match fault {
         WordFault::NoCommand => (b"missing command", b""),
         WordFault::UnknownCommand => (b"unknown command", b""),
+        WordFault::BadNumber => (b"bad number", b""),
+        WordFault::Repeated => (b"repeated option", b""),
         WordFault::NoTypes => (b"missing type", b""),
         WordFault::Schema(fault) => (b"schema fault ", number.format(fault).as_bytes()),
         WordFault::NotYet => (b"not supported yet", b""),
+    }
+}
+
+/// The eight hexadecimal digits of a header's flags.
+fn flags_text(flags: u32) -> [u8; 8]
+    ensures { result ≡ flags_text flags }
+{
+    let mut text = [0; 8];
+    let mut left = flags;
+    let mut place = text.len();
+    while place > 0 {
+        place -= 1;
+        text[place] = DIGITS[(left % 16) as usize];
+        left /= 16;
+    }
+    text
+}
+
+/// The word for why a field spells no value.
+fn kind_text(kind: Break) -> &'static [u8]
+    ensures { result.now ≡ kind_text kind }
+{
+    match kind {
+        Break::Null => b"null",
+        Break::Size => b"size",
+        Break::Count => b"count",
+        Break::Utf8 => b"utf8",
+        Break::Sign => b"sign",
+        Break::Family => b"family",
+        Break::Prefix => b"prefix",
+        Break::ZeroOid => b"zero oid",
+        Break::Dimensions => b"dimensions",
+        Break::Surplus => b"surplus",
+    }
+}
+
+/// Writes the line of a field: where it stands, and what is wrong with it.
+fn report_field<N: Sink>(row: u64, column: usize, text: &[u8], notes: &mut N)
+    ensures line { GainsUnlessFailed N.gained N.fault_count notes.old notes.new (field_text row column text.now ++ codes "\n") }
+    ensures faults { N.fault_count notes.old ≤ N.fault_count notes.new }
+    ensures origin { N.origin notes.new ≡ N.origin notes.old }
+{
+    let mut row_number = Buffer::new();
+    let mut column_number = Buffer::new();
+    let row = row_number.format(row).as_bytes();
+    let column = column_number.format(column).as_bytes();
+    send_all(
+        notes,
+        &[b"row ", row, b" column ", column, b": ", text, b"\n"],
+    );
+}
+
+/// Writes the line of a stream that was not copied.
+fn report_fault<N: Sink>(fault: CopyFault, notes: &mut N)
+    ensures line { GainsUnlessFailed N.gained N.fault_count notes.old notes.new (copy_fault_text fault ++ codes "\n") }
+    ensures faults { N.fault_count notes.old ≤ N.fault_count notes.new }
+    ensures origin { N.origin notes.new ≡ N.origin notes.old }
+{
+    let mut number = Buffer::new();
+    match fault {
+        CopyFault::BadHeader => send_all(notes, &[b"bad header\n"]),
+        CopyFault::BadFlags(flags) => {
+            let text = flags_text(flags);
+            send_all(notes, &[b"bad flags ", &text, b"\n"]);
+        }
+        CopyFault::Truncated => send_all(notes, &[b"truncated\n"]),
+        CopyFault::BadFieldCount(count) => {
+            let count = number.format(count).as_bytes();
+            send_all(notes, &[b"bad field count ", count, b"\n"]);
+        }
+        CopyFault::UnexpectedEndOfRow { row } => {
+            let row = number.format(row).as_bytes();
+            send_all(notes, &[b"row ", row, b": too few fields\n"]);
+        }
+        CopyFault::BadValue { row, column, kind } => {
+            report_field(row, column, kind_text(kind), notes);
+        }
+        CopyFault::TooLong { row, column } => report_field(row, column, b"too long", notes),
+        CopyFault::RowLimit => send_all(notes, &[b"row limit\n"]),
+        CopyFault::ReadFault => send_all(notes, &[b"read fault\n"]),
+        CopyFault::WriteFault => send_all(notes, &[b"write fault\n"]),
+        CopyFault::NoMemory => send_all(notes, &[b"out of memory\n"]),
     }
 }
 
@@ -131,9 +229,6 @@ pub fn report<N: Sink>(outcome: Outcome, notes: &mut N)
             let (text, fault_number) = fault_text(fault, &mut fault_number);
             send_all(notes, &[b"word ", place, b": ", text, fault_number, b"\n"]);
         }
-        Outcome::BadStream => send_all(notes, &[b"bad stream\n"]),
-        Outcome::ReadFault => send_all(notes, &[b"read fault\n"]),
-        Outcome::WriteFault => send_all(notes, &[b"write fault\n"]),
-        Outcome::NoMemory => send_all(notes, &[b"out of memory\n"]),
+        Outcome::Fault(fault) => report_fault(fault, notes),
     }
 }

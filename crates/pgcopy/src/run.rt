@@ -1,15 +1,16 @@
-ghost use Rattle.std.specs.Prelude.{◌≡◌, ◌≢◌, ◌≤◌, ◌↔◌, ◌⊎◌, ⊤, ℕ, List, length, true, option_map, IsSome, IfOk, IfErr, IsErr, IsOkAnd};
-ghost use Rattle.std.specs.Io.KnownBytes.{Appends};
-ghost use Rattle.pgw_wire.specs.Outside.{HasFailed, Took, NoFront, HasFront, Gains, SettledAfter};
-ghost use Rattle.pgw_tree.specs.Tree.{Value, shapes};
+ghost use Rattle.std.specs.Prelude.{◌≡◌, ◌≢◌, ◌≤◌, ◌↔◌, ◌⊎◌, ⊤, ℕ, List, true, option_map, IfOk, IfErr, IsErr, IsOkAnd};
+ghost use Rattle.std.specs.Io.KnownBytes.{Appends, IsAtEnd};
+ghost use Rattle.pgw_wire.specs.Outside.{HasFailed, Took, HasFront, Gains, SettledAfter};
+ghost use Rattle.pgw_tree.specs.Tree.{Value};
 ghost use Rattle.pgw_tree.specs.Canonical.{canonical_stream};
-ghost use Rattle.pgw_tree.specs.Stream.{IsStream, IsStreamOf, IsValidStream, default_limits};
+ghost use Rattle.pgw_tree.specs.Causes.{fault_says};
+ghost use Rattle.pgw_tree.specs.Stream.{IsStream, IsStreamOf, IsValidStream};
 ghost use Rattle.pgcopy.specs.Words.{plan_of};
-ghost use Rattle.pgcopy.specs.Report.{line_of, status_of, GainsUnlessFailed};
+ghost use Rattle.pgcopy.specs.Report.{line_of, fault_status, status_of, GainsUnlessFailed};
 
 use crate::report::{Outcome, Status, report};
 use crate::words::{WordError, read_words};
-use pgw_tree::{FirstFault, FirstType, recopy_first};
+use pgw_tree::{CopyFault, recopy_first};
 use pgw_wire::{Sink, Source};
 use std::alloc::Global;
 
@@ -26,36 +27,31 @@ fn execute<S: Source, K: Sink>(
     ensures words { status_of result ≡ Status.Words → IsErr (plan_of words.now) }
 
     ensures copied { status_of result ≡ Status.Copied
-        → IsOkAnd (plan_of words.now) (λ columns. (n : ℕ) × (result ≡ Outcome.Copied n)
-        × Took (S.left source.old) (S.left source.new) (IsStreamOf default_limits columns n)) }
+        → IsOkAnd (plan_of words.now) (λ plan. (n : ℕ) × (result ≡ Outcome.Copied n)
+        × Took (S.left source.old) (S.left source.new) (IsStreamOf plan.limits plan.columns n)) }
     ensures canonical { status_of result ≡ Status.Copied
-        → IsOkAnd (plan_of words.now) (λ columns.
+        → IsOkAnd (plan_of words.now) (λ plan.
         Took (S.left source.old) (S.left source.new) (λ taken. (rows : List (List Value))
-        → IsStream columns taken rows
-        → Appends (K.gained sink.old) (K.gained sink.new) (canonical_stream columns rows))) }
+        → IsStream plan.columns taken rows
+        → Appends (K.gained sink.old) (K.gained sink.new) (canonical_stream plan.columns rows))) }
     ensures settled { status_of result ≡ Status.Copied
         → K.settled sink.new ≡ option_map (λ _. true) (K.settled sink.old) }
     ensures unsettled { status_of result ≢ Status.Copied
         → SettledAfter (K.settled sink.old) (K.settled sink.new) }
-    ensures bad_stream { status_of result ≡ Status.Refused
-        → (result ≡ Outcome.BadStream) × IsOkAnd (plan_of words.now) (λ columns.
-        NoFront (S.left source.old) (IsValidStream default_limits columns)) }
-    ensures outside { status_of result ≡ Status.Outside
-        → ((result ≡ Outcome.ReadFault) × HasFailed (S.fault_count source.old) (S.fault_count source.new))
-        ⊎ ((result ≡ Outcome.WriteFault) × HasFailed (K.fault_count sink.old) (K.fault_count sink.new)) }
-    ensures no_memory { status_of result ≡ Status.NoMemory → result ≡ Outcome.NoMemory }
+    ensures fault { status_of result ≢ Status.Copied → status_of result ≢ Status.Words
+        → IsOkAnd (plan_of words.now) (λ plan. (fault : CopyFault) × (result ≡ Outcome.Fault fault)
+        × Took (S.left source.old) (S.left source.new)
+        (fault_says plan.limits plan.columns fault (K.gained sink.old) (K.gained sink.new))
+        × (fault ≡ CopyFault.Truncated → IsAtEnd (S.left source.new))
+        × (fault ≡ CopyFault.ReadFault → HasFailed (S.fault_count source.old) (S.fault_count source.new))
+        × (fault ≡ CopyFault.WriteFault → HasFailed (K.fault_count sink.old) (K.fault_count sink.new))) }
     ensures known { status_of result ≢ Status.UnknownType }
 
-    ensures complete { IfOk (plan_of words.now) (λ columns.
-        HasFront (S.left source.old) (IsValidStream default_limits columns)
+    ensures complete { IfOk (plan_of words.now) (λ plan.
+        HasFront (S.left source.old) (IsValidStream plan.limits plan.columns)
         → ¬ HasFailed (S.fault_count source.old) (S.fault_count source.new)
         → ¬ HasFailed (K.fault_count sink.old) (K.fault_count sink.new)
         → (status_of result ≡ Status.Copied) ⊎ (status_of result ≡ Status.NoMemory)) }
-    ensures refused { IfOk (plan_of words.now) (λ columns.
-        IsSome (S.left source.old) → NoFront (S.left source.old) (IsValidStream default_limits columns)
-        → ¬ HasFailed (S.fault_count source.old) (S.fault_count source.new)
-        → ¬ HasFailed (K.fault_count sink.old) (K.fault_count sink.new)
-        → (status_of result ≡ Status.Refused) ⊎ (status_of result ≡ Status.NoMemory)) }
 
     ensures taken { Took (S.left source.old) (S.left source.new) (λ _. ⊤) }
     ensures gained { Gains (K.gained sink.old) (K.gained sink.new) }
@@ -65,31 +61,40 @@ fn execute<S: Source, K: Sink>(
     ensures sink_origin { K.origin sink.new ≡ K.origin sink.old }
 {
     match read_words(alloc, words) {
-        Ok(columns) => match recopy_first(alloc, &columns, source, sink) {
+        Ok(plan) => match recopy_first(alloc, plan.columns.as_slice(), source, sink, plan.limits) {
             Ok(rows) => Outcome::Copied(rows),
-            Err(FirstFault::BadStream) => Outcome::BadStream,
-            Err(FirstFault::ReadFault) => Outcome::ReadFault,
-            Err(FirstFault::WriteFault) => Outcome::WriteFault,
-            Err(FirstFault::NoMemory) => Outcome::NoMemory,
+            Err(fault) => Outcome::Fault(fault),
         },
         Err(WordError::Fault { place, fault }) => Outcome::BadWord { place, fault },
-        Err(WordError::NoMemory) => Outcome::NoMemory,
+        Err(WordError::NoMemory) => Outcome::Fault(CopyFault::NoMemory),
     }
 }
 
 /// Executes the command of the words, and writes a line to `notes` that tells what came of it.
 ///
-/// The command `copy` and column types copy a stream of rows of these columns, as PostgreSQL's
-/// `COPY .. (FORMAT binary)` has it, from the source to the sink.
+/// The command `copy`, options and column types copy a stream of rows of these columns, as PostgreSQL's
+/// `COPY .. (FORMAT binary)` has it, from the source to the sink. `rows=` limits how many rows the stream has, and
+/// `field=` how many bytes the canonical form of a field has.
 ///
 /// | status | cause | line |
 /// |---|---|---|
 /// | `Copied` | the source began with a whole stream, and the sink has its canonical form | `rows` and their number |
 /// | `Words` | something is wrong with the words; nothing was read or written | `word`, its place and what is wrong |
-/// | `Refused` | what the source had is no stream of these columns | `bad stream` |
+/// | `Refused` | the source does not begin as a stream does, or its extension has a negative length | `bad header` |
+/// | `Refused` | a bit of the high half of the header's flags is set | `bad flags` and their eight digits |
+/// | `Refused` | the source ended inside the stream | `truncated` |
+/// | `Refused` | the count of a row is below -1 | `bad field count` and the count |
+/// | `Refused` | a row has fewer fields than there are columns | `row`, its number, and `too few fields` |
+/// | `Refused` | a field spells no value of its column | `row`, `column`, and what is wrong |
+/// | `Refused` | a value is longer than the limit | `row`, `column`, and `too long` |
+/// | `Refused` | there are more rows than the limit | `row limit` |
 /// | `Outside` | the source or the sink failed | `read fault` or `write fault` |
 /// | `UnknownType` | does not come yet | |
 /// | `NoMemory` | memory was asked for and refused | `out of memory` |
+///
+/// Rows and columns are counted from 0. A fault of the header comes before anything is written; behind the header the
+/// sink has the canonical form of all rows before the fault, and where it failed itself, that without the end of what
+/// was written last.
 ///
 /// The line takes no memory. Where `notes` fails the status stays, and a front of the line is there.
 pub fn run<S: Source, K: Sink, N: Sink>(
@@ -109,42 +114,33 @@ pub fn run<S: Source, K: Sink, N: Sink>(
     // The bytes taken are one stream of exactly the rows that the line counts, and the bytes written are the
     // canonical stream of those rows.
     ensures copied { result ≡ Status.Copied
-        → IsOkAnd (plan_of words.now) (λ columns. (n : ℕ)
+        → IsOkAnd (plan_of words.now) (λ plan. (n : ℕ)
         × GainsUnlessFailed N.gained N.fault_count notes.old notes.new (line_of (Outcome.Copied n))
-        × Took (S.left source.old) (S.left source.new) (IsStreamOf default_limits columns n)) }
+        × Took (S.left source.old) (S.left source.new) (IsStreamOf plan.limits plan.columns n)) }
     ensures canonical { result ≡ Status.Copied
-        → IsOkAnd (plan_of words.now) (λ columns.
+        → IsOkAnd (plan_of words.now) (λ plan.
         Took (S.left source.old) (S.left source.new) (λ taken. (rows : List (List Value))
-        → IsStream columns taken rows
-        → Appends (K.gained sink.old) (K.gained sink.new) (canonical_stream columns rows))) }
+        → IsStream plan.columns taken rows
+        → Appends (K.gained sink.old) (K.gained sink.new) (canonical_stream plan.columns rows))) }
     ensures settled { result ≡ Status.Copied → K.settled sink.new ≡ option_map (λ _. true) (K.settled sink.old) }
 
-    // When each other status comes, and its line.
-    ensures bad_stream { result ≡ Status.Refused
-        → IsOkAnd (plan_of words.now) (λ columns.
-        NoFront (S.left source.old) (IsValidStream default_limits columns)) }
-    ensures bad_stream_line { result ≡ Status.Refused
-        → GainsUnlessFailed N.gained N.fault_count notes.old notes.new (line_of Outcome.BadStream) }
-    ensures outside { result ≡ Status.Outside
-        → (HasFailed (S.fault_count source.old) (S.fault_count source.new)
-        × GainsUnlessFailed N.gained N.fault_count notes.old notes.new (line_of Outcome.ReadFault))
-        ⊎ (HasFailed (K.fault_count sink.old) (K.fault_count sink.new)
-        × GainsUnlessFailed N.gained N.fault_count notes.old notes.new (line_of Outcome.WriteFault)) }
-    ensures no_memory { result ≡ Status.NoMemory
-        → GainsUnlessFailed N.gained N.fault_count notes.old notes.new (line_of Outcome.NoMemory) }
+    // Each other status is that of a fault, which its line tells, and which says what was taken and what was written.
+    ensures fault { result ≢ Status.Copied → result ≢ Status.Words
+        → IsOkAnd (plan_of words.now) (λ plan. (fault : CopyFault) × (result ≡ fault_status fault)
+        × GainsUnlessFailed N.gained N.fault_count notes.old notes.new (line_of (Outcome.Fault fault))
+        × Took (S.left source.old) (S.left source.new)
+        (fault_says plan.limits plan.columns fault (K.gained sink.old) (K.gained sink.new))
+        × (fault ≡ CopyFault.Truncated → IsAtEnd (S.left source.new))
+        × (fault ≡ CopyFault.ReadFault → HasFailed (S.fault_count source.old) (S.fault_count source.new))
+        × (fault ≡ CopyFault.WriteFault → HasFailed (K.fault_count sink.old) (K.fault_count sink.new))) }
     ensures known { result ≢ Status.UnknownType }
 
-    // A valid stream is copied, and what is none is refused, unless memory runs out or an object outside failed.
-    ensures complete { IfOk (plan_of words.now) (λ columns.
-        HasFront (S.left source.old) (IsValidStream default_limits columns)
+    // A valid stream is copied, unless memory runs out or an object outside failed.
+    ensures complete { IfOk (plan_of words.now) (λ plan.
+        HasFront (S.left source.old) (IsValidStream plan.limits plan.columns)
         → ¬ HasFailed (S.fault_count source.old) (S.fault_count source.new)
         → ¬ HasFailed (K.fault_count sink.old) (K.fault_count sink.new)
         → (result ≡ Status.Copied) ⊎ (result ≡ Status.NoMemory)) }
-    ensures refused { IfOk (plan_of words.now) (λ columns.
-        IsSome (S.left source.old) → NoFront (S.left source.old) (IsValidStream default_limits columns)
-        → ¬ HasFailed (S.fault_count source.old) (S.fault_count source.new)
-        → ¬ HasFailed (K.fault_count sink.old) (K.fault_count sink.new)
-        → (result ≡ Status.Refused) ⊎ (result ≡ Status.NoMemory)) }
 
     // What is left, whatever it answers.
     ensures taken { Took (S.left source.old) (S.left source.new) (λ _. ⊤) }

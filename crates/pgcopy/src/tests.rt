@@ -53,11 +53,16 @@ fn run_on(
 
 #[test]
 fn words_that_are_wrong_are_told(rt: HostRuntime) {
-    let table: [(&[&str], &[u8]); 4] = [
+    let table: [(&[&str], &[u8]); 6] = [
         (&[], b"word 0: missing command\n"),
         (&["copy"], b"word 1: missing type\n"),
         (&["copy", "int9"], b"word 1: not supported yet\n"),
         (&["cpy"], b"word 0: unknown command\n"),
+        (&["copy", "rows=x", "int4"], b"word 1: bad number\n"),
+        (
+            &["copy", "rows=1", "rows=2", "int4"],
+            b"word 2: repeated option\n",
+        ),
     ];
     for (words, line) in table {
         let ended = run_on(rt.alloc(), words, ONE_ROW, &[], &[], &[]).expect(&rt, "memory");
@@ -94,7 +99,7 @@ fn streams_are_copied(rt: HostRuntime) {
         b"PGCOPY\n\xff\r\n\0\0\0\0\0\0\0\0\0\0\x02\xff\xff\xff\xfe\0\0\0\x04\0\0\0\x07\xff\xff";
     let texts: &[u8] =
         b"PGCOPY\n\xff\r\n\0\0\0\0\0\0\0\0\0\0\x02\0\0\0\x02\xc3\xa9\0\0\0\0\0\x02\0\0\0\x01a\xff\xff\xff\xff\xff\xff";
-    let table: [(&[&str], &[u8], &[u8], &[u8], usize); 7] = [
+    let table: [(&[&str], &[u8], &[u8], &[u8], usize); 10] = [
         (&["copy", "int4"], EMPTY, EMPTY, b"rows 0\n", 21),
         (&["copy", "int4"], ONE_ROW, ONE_ROW, b"rows 1\n", 31),
         (&["copy", "int4"], surplus, ONE_ROW, b"rows 1\n", 40),
@@ -108,6 +113,21 @@ fn streams_are_copied(rt: HostRuntime) {
             35,
         ),
         (&["copy", "text", "text?"], texts, texts, b"rows 2\n", 44),
+        (
+            &["copy", "rows=1", "int4"],
+            ONE_ROW,
+            ONE_ROW,
+            b"rows 1\n",
+            31,
+        ),
+        (&["copy", "rows=0", "int4"], EMPTY, EMPTY, b"rows 0\n", 21),
+        (
+            &["copy", "field=2", "rows=2", "text", "text?"],
+            texts,
+            texts,
+            b"rows 2\n",
+            44,
+        ),
     ];
     for (words, input, output, line, taken) in table {
         let ended = run_on(rt.alloc(), words, input, &[], &[], &[]).expect(&rt, "memory");
@@ -171,34 +191,105 @@ fn no_call_is_made_that_is_not_needed(rt: HostRuntime) {
     );
     assert_eq!(rt; flushed.status, Status::Copied);
     assert_eq!(rt; flushed.output.faults(), 0);
-    let short: &[u8] = b"PGCOPY\n\xff\r\n\0\0\0\0\0\0\0\0\0\0\x02\0\0\0\x04\0\0\0\x2a";
+    let short: &[u8] =
+        b"PGCOPY\n\xff\r\n\0\0\0\0\0\0\0\0\0\0\x02\0\0\0\x04\0\0\0\x2a\xff\xff\xff\xff\0\x01";
     let null: &[u8] =
         b"PGCOPY\n\xff\r\n\0\0\0\0\0\0\0\0\0\0\x01\0\0\0\x04\0\0\0\x2a\0\x01\xff\xff\xff\xff\xff\xff";
     let other: &[u8] = b"PGCOPX\n\xff\r\n\0\0\0\0\0\0\0\0\0\0\x01\0\0\0\x04\0\0\0\x2a";
-    let table: [(&[&str], &[u8], u64, usize, &[u8]); 4] = [
-        (&["copy", "int4", "int4", "int4"], short, 2, 21, HEADER),
-        (&["copy", "int4"], null, 6, 35, &ONE_ROW[..29]),
-        (&["copy", "int4"], &ONE_ROW[..29], 5, 29, &ONE_ROW[..29]),
-        (&["copy", "int4"], other, 1, 19, b""),
+    let table: [(&[&str], &[u8], u64, usize, &[u8], &[u8]); 4] = [
+        (
+            &["copy", "int4", "int4", "int4"],
+            short,
+            5,
+            33,
+            HEADER,
+            b"row 0: too few fields\n",
+        ),
+        (
+            &["copy", "int4"],
+            null,
+            6,
+            35,
+            &ONE_ROW[..29],
+            b"row 1 column 0: null\n",
+        ),
+        (
+            &["copy", "int4"],
+            &ONE_ROW[..29],
+            5,
+            29,
+            &ONE_ROW[..29],
+            b"truncated\n",
+        ),
+        (&["copy", "int4"], other, 1, 19, b"", b"bad header\n"),
     ];
-    for (words, input, call, taken, written) in table {
+    for (words, input, call, taken, written, line) in table {
         let ended = run_on(rt.alloc(), words, input, &[], &[call], &[]).expect(&rt, "memory");
         assert_eq!(rt; ended.status, Status::Refused, "at {taken}");
+        assert_eq!(rt; ended.line.gained(), line, "at {taken}");
         assert_eq!(rt; ended.taken, taken);
-        assert_eq!(rt; ended.output.gained(), written);
+        assert_eq!(rt; ended.output.gained(), written, "at {taken}");
+    }
+}
+
+// What is no stream of the columns has a line of its own, and the sink has what came before it.
+#[test]
+fn streams_that_are_refused_are_told(rt: HostRuntime) {
+    let flags: &[u8] = b"PGCOPY\n\xff\r\n\0\0\x01\0\0\0\0\0\0\xff\xff";
+    let extension: &[u8] = b"PGCOPY\n\xff\r\n\0\0\0\0\0\xff\xff\xff\xff\xff\xff";
+    let few: &[u8] = b"PGCOPY\n\xff\r\n\0\0\0\0\0\0\0\0\0\0\0\xff\xff";
+    let count: &[u8] = b"PGCOPY\n\xff\r\n\0\0\0\0\0\0\0\0\0\xff\xfe";
+    let rows: &[u8] =
+        b"PGCOPY\n\xff\r\n\0\0\0\0\0\0\0\0\0\0\x01\0\0\0\x04\0\0\0\x2a\0\x01\0\0\0\x04\0\0\0\x2b\xff\xff";
+    let long: &[u8] = b"PGCOPY\n\xff\r\n\0\0\0\0\0\0\0\0\0\0\x01\0\0\0\x03abc\xff\xff";
+    let table: [(&[&str], &[u8], &[u8], &[u8]); 9] = [
+        (&["copy", "int4"], flags, b"", b"bad flags 00010000\n"),
+        (&["copy", "int4"], extension, b"", b"bad header\n"),
+        (
+            &["copy", "int4"],
+            b"no stream of rows.",
+            b"",
+            b"truncated\n",
+        ),
+        (&["copy", "int4"], b"", b"", b"truncated\n"),
+        (&["copy", "int4"], few, HEADER, b"row 0: too few fields\n"),
+        (&["copy", "int4"], count, HEADER, b"bad field count -2\n"),
+        (
+            &["copy", "rows=1", "int4"],
+            rows,
+            &rows[..29],
+            b"row limit\n",
+        ),
+        (
+            &["copy", "field=2", "text"],
+            long,
+            HEADER,
+            b"row 0 column 0: too long\n",
+        ),
+        (&["copy", "rows=0", "int4"], ONE_ROW, HEADER, b"row limit\n"),
+    ];
+    for (words, input, output, line) in table {
+        let ended = run_on(rt.alloc(), words, input, &[], &[], &[]).expect(&rt, "memory");
+        assert_eq!(rt; ended.line.gained(), line);
+        assert_eq!(rt; ended.status, Status::Refused);
+        assert_eq!(rt; ended.output.gained(), output);
     }
 }
 
 #[test]
 fn fields_that_spell_no_value_are_refused(rt: HostRuntime) {
-    let table: [(&str, &[u8]); 5] = [
-        ("int4", b"\xff\xff\xff\xff"),
-        ("text", b"\xff\xff\xff\xff"),
-        ("int4", b"\0\0\0\x03\0\0\x2a"),
-        ("int4?", b"\0\0\0\x05\0\0\0\x2a\0"),
-        ("text?", b"\0\0\0\x02\xc3\x28"),
+    let table: [(&str, &[u8], &[u8]); 5] = [
+        ("int4", b"\xff\xff\xff\xff", b"row 0 column 0: null\n"),
+        ("text", b"\xff\xff\xff\xff", b"row 0 column 0: null\n"),
+        ("int4", b"\0\0\0\x03\0\0\x2a", b"row 0 column 0: size\n"),
+        (
+            "int4?",
+            b"\0\0\0\x05\0\0\0\x2a\0",
+            b"row 0 column 0: size\n",
+        ),
+        ("text?", b"\0\0\0\x02\xc3\x28", b"row 0 column 0: utf8\n"),
     ];
-    for (column, field) in table {
+    for (column, field, line) in table {
         let mut input = Vec::from_slice(rt.alloc(), HEADER).expect(&rt, "memory");
         input.extend_from_slice(b"\0\x01").expect(&rt, "memory");
         input.extend_from_slice(field).expect(&rt, "memory");
@@ -207,7 +298,7 @@ fn fields_that_spell_no_value_are_refused(rt: HostRuntime) {
             &rt, "memory",
         );
         assert_eq!(rt; ended.status, Status::Refused);
-        assert_eq!(rt; ended.line.gained(), b"bad stream\n".as_slice());
+        assert_eq!(rt; ended.line.gained(), line);
         assert_eq!(rt; ended.output.gained(), HEADER);
     }
 }
@@ -227,7 +318,7 @@ fn stream_cut_anywhere_is_refused(rt: HostRuntime) {
         )
         .expect(&rt, "memory");
         assert_eq!(rt; ended.status, Status::Refused, "at {len}");
-        assert_eq!(rt; ended.line.gained(), b"bad stream\n".as_slice(), "at {len}");
+        assert_eq!(rt; ended.line.gained(), b"truncated\n".as_slice(), "at {len}");
         let written = match len {
             0..19 => 0,
             19..29 => 19,

@@ -1,10 +1,21 @@
-ghost use Rattle.std.specs.Prelude.{◌≡◌, ℕ, ◌≤◌, map, string_bytes, vec_len, Option, option_map, Ok, Err, IfOk, IsOk};
-ghost use Rattle.std.specs.List.{filter_map};
+ghost use Rattle.std.specs.Prelude.{◌≡◌, ℕ, ◌≤◌, ◌<◌, List, [], ◌∷◌, ◌++◌, length, map, string_bytes, Option, Some, None, option_map, Ok, Err, true, IfOk, IfErr, IfSome, IsOk, MatchResult};
+ghost use Rattle.std.specs.List.{filter_map, list_all};
+ghost use Rattle.std.specs.Option.{unwrap_or};
 ghost use Rattle.pgw_tree.specs.Tree.{shape, shapes};
-ghost use Rattle.pgcopy.specs.Words.{type_of, unknown_from, plan_of};
+ghost use Rattle.pgw_tree.specs.Stream.{default_limits};
+ghost use Rattle.pgw_tree.specs.Handed.{columns_of, limits_of};
+ghost use Rattle.pgcopy.specs.Words.{type_of, behind, is_option, number_of, option_fault, fault_of, first_fault, plan_of};
+ghost use Rattle.pgcopy.specs.Seen.{HasSeen};
 
-use pgw_tree::FirstType;
-use std::alloc::{AllocError, AllocFailed, Global};
+use pgw_tree::{FirstList, FirstType, Limits};
+use pgw_wire::NoMemory;
+use std::alloc::Global;
+
+/// The most rows, where no word limits them.
+const ROWS_MAX: u64 = u64::MAX;
+
+/// The longest field that PostgreSQL's format can state.
+const FIELD_MAX: u64 = 2147483647;
 
 /// How many columns a row has at most: its count of fields has 16 bits with a sign.
 const COLUMNS_MAX: usize = 32767;
@@ -16,15 +27,19 @@ pub enum WordFault {
     NoCommand,
     /// The first word is no command.
     UnknownCommand,
+    /// The digits of an option are no number that it may have.
+    BadNumber,
+    /// The option stands before it already.
+    Repeated,
     /// The command has no column types.
     NoTypes,
     /// The types make no schema, by the number of the fault. 2: there are more than 32767 columns.
     Schema(u8),
-    /// The word names no type that is read yet.
+    /// The word is none that is read yet: it names no such type, or is an option `oid=`.
     NotYet,
 }
 
-/// Why the words gave no columns.
+/// Why the words gave no plan.
 #[derive(Clone, Copy, Debug, PartialEq, Eq)]
 pub enum WordError {
     /// What is wrong first, and the place of its word, counted from 0.
@@ -33,14 +48,31 @@ pub enum WordError {
     NoMemory,
 }
 
-impl From<AllocError> for WordError {
+impl From<NoMemory> for WordError {
     ghost use Rattle.pgcopy.specs.declared.words.WordError.TheVariants.{NoMemory};
 
     ghost from_gives = { λ _ e. e ≡ NoMemory };
 
-    fn from(_: AllocError) -> WordError {
+    fn from(_: NoMemory) -> WordError {
         WordError::NoMemory
     }
+}
+
+/// What the words of a command line ask for.
+#[derive(Drop)]
+pub struct Plan {
+    /// How much is copied at most.
+    pub limits: Limits,
+    /// The types of the columns.
+    pub columns: FirstList,
+}
+
+/// What was read of the words so far: the numbers of the options, and how many types there are.
+#[derive(Clone, Copy)]
+struct Seen {
+    rows: Option<u64>,
+    field: Option<u64>,
+    types: usize,
 }
 
 /// The column type that a word names.
@@ -60,24 +92,111 @@ fn type_of(word: &str) -> Option<FirstType>
     }
 }
 
-/// The place of the first word that names no type. The first of these words stands behind the command, at place 1.
-fn first_unknown(types: &[String]) -> Option<usize>
-    ensures { result ≡ unknown_from 1 (map string_bytes types.now) }
+/// What stands in a word behind a text, where it begins with it.
+fn behind<'a>(word: &'a str, front: &str) -> Option<&'a str>
+    ensures { option_map (λ rest. rest.now) result ≡ behind front.now word.now }
 {
-    for (k, word) in types.iter().enumerate() {
-        if type_of(word.as_str()).is_none() {
-            return Some(k + 1);
+    word.strip_prefix(front)
+}
+
+/// Whether a word is an option, where no type stands before it.
+fn is_option(word: &str) -> bool
+    ensures { result ≡ is_option word.now }
+{
+    behind(word, "rows=").is_some()
+        || behind(word, "field=").is_some()
+        || behind(word, "oid=").is_some()
+}
+
+/// The number of an option, of at most `most`. `again` says that the option stands before it already.
+fn number_of(digits: &str, most: u64, again: bool) -> Result<u64, WordFault>
+    ensures { result ≡ number_of most digits.now again }
+{
+    if digits.starts_with('+') {
+        return Err(WordFault::BadNumber);
+    }
+    match digits.parse::<u64>() {
+        Ok(number) if number <= most => {
+            if again {
+                Err(WordFault::Repeated)
+            } else {
+                Ok(number)
+            }
+        }
+        _ => Err(WordFault::BadNumber),
+    }
+}
+
+/// Reads an option behind others.
+fn read_option(seen: Seen, word: &str) -> Result<Seen, WordFault>
+    ensures { (before : List (List ℕ)) → HasSeen seen before
+        → list_all is_option before ≡ true → is_option word.now ≡ true
+        → MatchResult result (λ next. (option_fault before word.now ≡ None) × HasSeen next (before ++ (word.now ∷ [])))
+        (λ fault. option_fault before word.now ≡ Some fault) }
+{
+    if let Some(digits) = behind(word, "rows=") {
+        let rows = number_of(digits, ROWS_MAX, seen.rows.is_some())?;
+        Ok(Seen {
+            rows: Some(rows),
+            ..seen
+        })
+    } else if let Some(digits) = behind(word, "field=") {
+        let field = number_of(digits, FIELD_MAX, seen.field.is_some())?;
+        Ok(Seen {
+            field: Some(field),
+            ..seen
+        })
+    } else {
+        Err(WordFault::NotYet)
+    }
+}
+
+/// Reads a word behind others.
+fn read_word(seen: Seen, word: &str) -> Result<Seen, WordFault>
+    requires { seen.types < 18446744073709551615 }
+    ensures { (before : List (List ℕ)) → HasSeen seen before
+        → MatchResult result (λ next. (fault_of before word.now ≡ None) × HasSeen next (before ++ (word.now ∷ [])))
+        (λ fault. fault_of before word.now ≡ Some fault) }
+{
+    if seen.types == 0 && is_option(word) {
+        read_option(seen, word)
+    } else if type_of(word).is_some() {
+        Ok(Seen {
+            types: seen.types + 1,
+            ..seen
+        })
+    } else {
+        Err(WordFault::NotYet)
+    }
+}
+
+/// Reads the words behind the command. An error has its place.
+fn read_behind(words: &[String]) -> Result<Seen, (usize, WordFault)>
+    ensures ok { IfOk result (λ seen. (first_fault [] (map string_bytes words.now) ≡ None)
+        × HasSeen seen (map string_bytes words.now)) }
+    ensures err { IfErr result (λ e. first_fault [] (map string_bytes words.now)
+        ≡ Some (record { place = e.0; fault = e.1 })) }
+{
+    let mut seen = Seen {
+        rows: None,
+        field: None,
+        types: 0,
+    };
+    for (k, word) in words.iter().enumerate() {
+        match read_word(seen, word.as_str()) {
+            Ok(next) => seen = next,
+            Err(fault) => return Err((k + 1, fault)),
         }
     }
-    None
+    Ok(seen)
 }
 
 /// The types that the words name, in their order.
-fn known_types(alloc: Global, types: &[String]) -> Result<Vec<FirstType>, AllocError>
-    ensures { IfOk result (λ columns. shapes columns.items ≡ filter_map type_of (map string_bytes types.now)) }
+fn known_types(alloc: Global, words: &[String]) -> Result<FirstList, NoMemory>
+    ensures { IfOk result (λ columns. shapes (columns_of columns) ≡ filter_map type_of (map string_bytes words.now)) }
 {
-    let mut columns = Vec::new(alloc);
-    for word in types {
+    let mut columns = FirstList::new(alloc);
+    for word in words {
         if let Some(column) = type_of(word.as_str()) {
             columns.push(column)?;
         }
@@ -85,18 +204,32 @@ fn known_types(alloc: Global, types: &[String]) -> Result<Vec<FirstType>, AllocE
     Ok(columns)
 }
 
-/// The column types of the command `copy`, which is the only one.
+/// The limits that the options set, and the defaults of the others.
+fn limits_from(seen: Seen) -> Limits
+    requires field { IfSome seen.field (λ field. field ≤ 2147483647) }
+    ensures { limits_of result ≡ record {
+      rows_max = unwrap_or seen.rows default_limits.rows_max;
+      field_max = unwrap_or seen.field default_limits.field_max;
+    } }
+{
+    let rows = seen.rows.unwrap_or(ROWS_MAX);
+    let field = seen.field.unwrap_or(FIELD_MAX);
+    Limits::new(rows, field as u32).unwrap()
+}
+
+/// What the words ask for: the command `copy`, which is the only one, then options, and then a type for each column.
 ///
 /// Memory is asked for only where nothing is wrong with the words.
-pub fn read_words(alloc: Global, words: &[String]) -> Result<Vec<FirstType>, WordError>
-    ensures plan { IfOk result (λ columns. plan_of words.now ≡ Ok (shapes columns.items)) }
-    ensures some { IfOk result (λ columns. 1 ≤ vec_len columns) }
-    ensures few { IfOk result (λ columns. vec_len columns ≤ 32767) }
+pub fn read_words(alloc: Global, words: &[String]) -> Result<Plan, WordError>
+    ensures plan { IfOk result (λ plan. plan_of words.now
+        ≡ Ok (record { limits = limits_of plan.limits; columns = shapes (columns_of plan.columns) })) }
+    ensures some { IfOk result (λ plan. 1 ≤ length (columns_of plan.columns)) }
+    ensures few { IfOk result (λ plan. length (columns_of plan.columns) ≤ 32767) }
     ensures fault { (place : _) (fault : _) → result ≡ Err (WordError.Fault place fault)
         → plan_of words.now ≡ Err (record { place = place; fault = fault }) }
     ensures no_memory { result ≡ Err WordError.NoMemory → IsOk (plan_of words.now) }
 {
-    let Some((command, types)) = words.split_first() else {
+    let Some((command, rest)) = words.split_first() else {
         return Err(WordError::Fault {
             place: 0,
             fault: WordFault::NoCommand,
@@ -108,23 +241,23 @@ pub fn read_words(alloc: Global, words: &[String]) -> Result<Vec<FirstType>, Wor
             fault: WordFault::UnknownCommand,
         });
     }
-    if let Some(place) = first_unknown(types) {
+    let seen = match read_behind(rest) {
+        Ok(seen) => seen,
+        Err((place, fault)) => return Err(WordError::Fault { place, fault }),
+    };
+    if seen.types == 0 {
         return Err(WordError::Fault {
-            place,
-            fault: WordFault::NotYet,
-        });
-    }
-    if types.is_empty() {
-        return Err(WordError::Fault {
-            place: 1,
+            place: words.len(),
             fault: WordFault::NoTypes,
         });
     }
-    if types.len() > COLUMNS_MAX {
+    if seen.types > COLUMNS_MAX {
         return Err(WordError::Fault {
             place: words.len(),
             fault: WordFault::Schema(2),
         });
     }
-    Ok(known_types(alloc, types)?)
+    let columns = known_types(alloc, rest)?;
+    let limits = limits_from(seen);
+    Ok(Plan { limits, columns })
 }

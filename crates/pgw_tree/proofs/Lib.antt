@@ -1,10 +1,10 @@
-pub mod Reading
 pub mod Pieces
 pub mod Texts
-pub mod Columns
+pub mod Prefixes
 pub mod RowFields
-pub mod Ended
-pub mod Streams
 pub mod Unique
-pub mod Verdict
+pub mod Excluded
 pub mod Worked
+pub mod Parts
+pub mod Copies
+pub mod Finish

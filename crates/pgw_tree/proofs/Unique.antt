@@ -1,19 +1,32 @@
 -- A stream spells one list of rows.
-use Rattle.std.proofs.Common.{◌≡◌, ℕ, List, [], ◌∷◌, ◌++◌, length, None, Some, refl, sym, ap, ◌∙◌, arith, append_assoc, subst, w32}
+use Rattle.std.proofs.Common.{◌≡◌, ℕ, List, [], ◌∷◌, ◌++◌, length, None, Some, refl, sym, ap, ◌∙◌, arith, append_assoc, subst, w32, lit<}
 use Rattle.std.specs.Int.{to_be_bytes, cast_unsigned, cast_signed, w16}
 use Rattle.std.proofs.lemmas.Int.{to_z-of_z}
 use Rattle.std.proofs.Math.Facts.{Fits-of_z}
 use Rattle.pgw_wire.specs.Cell.{Cell}
 use Rattle.pgw_tree.specs.Tree.{Shape, int4, text, nullable, Value, number}
 use Rattle.pgw_tree.specs.Spells.{SpellsInt4, SpellsPiece, Spells, SpellsRow}
-use Rattle.pgw_copy.specs.Format.{IsField, AreFields, trailer}
+use Rattle.pgw_copy.specs.Format.{IsHeader, IsField, AreFields, IsCount, trailer}
 use Rattle.pgw_tree.specs.Stream.{AreRows, IsStream}
 use Rattle.pgw_copy.proofs.Lists.{same_front, same_rest}
-use Rattle.pgw_copy.proofs.Numbers.{same_number_2, same_number_4}
+use Rattle.pgw_copy.proofs.Numbers.{same_number_2, same_number_4, length-count}
+use Rattle.pgw_copy.proofs.Headers.{header_splits}
 use Rattle.pgw_copy.proofs.Fields.{Says, length_first, field_once}
 use Rattle.pgw_tree.proofs.RowFields.{fields_once}
-use Rattle.pgw_tree.proofs.Ended.{count_is_not_end}
-use Rattle.pgw_tree.proofs.Streams.{header_once}
+
+-- A count of 0 or more is not the end.
+pub count_is_not_end : (count : ℕ) (x behind rest : List ℕ) → IsCount (Some count) x → x ++ behind ≡ trailer ++ rest → ⊥
+count_is_not_end count x behind rest is e =
+    let same = same_front x trailer behind rest (length-count (Some count) x is) e in
+    absurd (omega (arith, is.0, same_number_2 count 65535 (omega (arith, is.0)) (lit< tt) (sym is.1 ∙ same)))
+
+-- Headers in front of the same bytes are the same.
+pub header_once : (x y behind rest : List ℕ) → IsHeader x → IsHeader y → x ++ behind ≡ y ++ rest → x ≡ y
+header_once x y behind rest h k e =
+    let whole = ap (λ l. l ++ behind) (sym h.is) ∙ e in
+    let split = header_splits h.fixed (h.extension ++ behind) y rest (length h.extension) h.begins k (sym (append_assoc h.fixed h.extension behind) ∙ whole) in
+    let same = same_rest h.fixed h.fixed (h.extension ++ behind) (split.0 ++ rest) refl (sym (append_assoc h.fixed h.extension behind) ∙ whole ∙ ap (λ l. l ++ rest) split.2 ∙ append_assoc h.fixed split.0 rest) in
+    h.is ∙ ap (λ l. h.fixed ++ l) (same_front h.extension split.0 behind rest (sym split.1) same) ∙ sym split.2
 
 cell_said : (word : ℕ) (c c' : Cell) (behind : List ℕ) → Says word c behind → Says word c' behind → c ≡ c'
 cell_said word None None behind s s' = refl
@@ -31,7 +44,7 @@ cell_once c c' field h h' =
     let behinds = same_rest (to_be_bytes w32 f.word) (to_be_bytes w32 f'.word) f.behind f'.behind refl whole in
     cell_said f'.word c c' f'.behind (subst (λ (b : List ℕ). Says f'.word c b) behinds (subst (λ (n : ℕ). Says n c f.behind) words f.says)) f'.says
 
-cells_once : (cells others : List Cell) (x behind rest : List ℕ) → length cells ≡ length others → AreFields cells x → (x' : List ℕ) → AreFields others x' → x ++ behind ≡ x' ++ rest → cells ≡ others
+pub cells_once : (cells others : List Cell) (x behind rest : List ℕ) → length cells ≡ length others → AreFields cells x → (x' : List ℕ) → AreFields others x' → x ++ behind ≡ x' ++ rest → cells ≡ others
 cells_once [] [] x behind rest many each x' each' e = refl
 cells_once [] (o ∷ os) x behind rest many each x' each' e = absurd (omega (arith, many))
 cells_once (c ∷ cs) [] x behind rest many each x' each' e = absurd (omega (arith, many))

@@ -1,5 +1,9 @@
+pub mod Breaks
+pub mod Columns
 pub mod Canonical
-pub mod Copying
 pub mod Spells
 pub mod Stream
 pub mod Tree
+pub mod Handed
+pub mod Causes
+pub mod Faults

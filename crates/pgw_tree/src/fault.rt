@@ -1,14 +1,46 @@
 ghost use Rattle.std.specs.Prelude.{◌≡◌};
 
-use pgw_wire::NoMemory as NoMemoryLeft;
+use pgw_copy::CopyReadError;
+use pgw_wire::{Break, Failed, NoMemory as NoMemoryLeft};
 use thiserror::Error;
 
-/// Why a stream was not copied.
+/// Why a stream was not copied. Rows and columns are counted from 0.
 #[derive(Clone, Copy, Debug, PartialEq, Eq, Error)]
-pub enum FirstFault {
-    /// No front of what the source had left is a stream of rows of the given types.
-    #[error("bad stream")]
-    BadStream,
+pub enum CopyFault {
+    /// The source does not begin with the bytes that every stream begins with, or the length of the header's extension
+    /// is negative.
+    #[error("bad header")]
+    BadHeader,
+    /// A bit of the high half of the header's flags, which are these, is set.
+    #[error("bad flags {0:08X}")]
+    BadFlags(u32),
+    /// The source ended inside the header or a row, or where a row or the end of the stream has to come.
+    #[error("truncated")]
+    Truncated,
+    /// The count of a row, which is this, is below -1.
+    #[error("bad field count {0}")]
+    BadFieldCount(i16),
+    /// The row has fewer fields than there are columns.
+    #[error("row {row}: too few fields")]
+    UnexpectedEndOfRow {
+        row: u64,
+    },
+    /// The field of the row in this column spells no value of the column's type.
+    #[error("row {row} column {column}: {kind:?}")]
+    BadValue {
+        row: u64,
+        column: usize,
+        kind: Break,
+    },
+    /// The value of the row in this column has more canonical bytes than the limit.
+    #[error("row {row} column {column}: too long")]
+    TooLong {
+        row: u64,
+        column: usize,
+    },
+    /// There are more rows than the limit.
+    #[error("row limit")]
+    RowLimit,
     /// The source failed.
     #[error("read fault")]
     ReadFault,
@@ -20,12 +52,29 @@ pub enum FirstFault {
     NoMemory,
 }
 
-impl From<NoMemoryLeft> for FirstFault {
-    ghost use Rattle.pgw_tree.specs.declared.fault.FirstFault.TheVariants.{NoMemory as no_memory};
+impl From<CopyReadError> for CopyFault {
+    ghost use Rattle.pgw_tree.specs.Faults.{fault_of};
 
-    ghost from_gives = { λ _ e. e ≡ no_memory };
+    ghost from_gives = { λ e f. f ≡ fault_of e };
 
-    fn from(_: NoMemoryLeft) -> FirstFault {
-        FirstFault::NoMemory
+    fn from(error: CopyReadError) -> CopyFault {
+        match error {
+            CopyReadError::BadHeader => CopyFault::BadHeader,
+            CopyReadError::BadFlags(flags) => CopyFault::BadFlags(flags),
+            CopyReadError::Truncated => CopyFault::Truncated,
+            CopyReadError::BadFieldCount(count) => CopyFault::BadFieldCount(count),
+            CopyReadError::ReadFault => CopyFault::ReadFault,
+            CopyReadError::NoMemory => CopyFault::NoMemory,
+        }
+    }
+}
+
+impl From<Failed> for CopyFault {
+    ghost use Rattle.pgw_tree.specs.declared.fault.CopyFault.TheVariants.{WriteFault as write_fault};
+
+    ghost from_gives = { λ _ f. f ≡ write_fault };
+
+    fn from(_: Failed) -> CopyFault {
+        CopyFault::WriteFault
     }
 }

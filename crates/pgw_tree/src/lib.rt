@@ -1,14 +1,18 @@
 //! COPY streams by the types of their columns: a stream in, and the canonical stream of the same rows out.
 #![tactic(auto)]
 
+mod cells;
 mod fault;
-mod header;
+mod limits;
+mod list;
 mod recopy;
-mod row;
-mod sink;
-mod source;
+#[cfg(test)]
+mod tests;
+mod turn;
 mod types;
 
-pub use fault::FirstFault;
+pub use fault::CopyFault;
+pub use limits::Limits;
+pub use list::FirstList;
 pub use recopy::recopy_first;
 pub use types::FirstType;

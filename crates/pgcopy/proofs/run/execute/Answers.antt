@@ -1,4 +1,33 @@
+use Rattle.std.proofs.Common.{Err, refl, ap, ◌∙◌, inr}
+use Rattle.pgw_tree.specs.declared.fault.CopyFault.TheVariants.{NoMemory}
+use Rattle.pgcopy.proofs.Told.{ok_and, status_at_fault, no_memory_at_first}
 use Rattle.pgcopy.proofs.run.execute.Goals as goal
 
 pub returns-in-Ok-recopy_first-clause-canonical : goal.returns-in-Ok-recopy_first-clause-canonical
-returns-in-Ok-recopy_first-clause-canonical g c = rw c.in-Ok.ensures.plan (λ _. simp c.deref.ensures.value at c.in-Ok-recopy_first.ensures.canonical)
+returns-in-Ok-recopy_first-clause-canonical g c = rw c.in-Ok.ensures.plan (λ _. simp c.as_slice.ensures at c.in-Ok-recopy_first.ensures.canonical)
+
+pub returns-in-Ok-clause-fault : goal.returns-in-Ok-clause-fault
+returns-in-Ok-clause-fault g c =
+    rw c.in-Ok.ensures.plan (λ _ _. (
+      c.in-Err.fault,
+      refl,
+      simp c.as_slice.ensures at c.recopy_first.ensures.fault c.in-Err.fault c.in-Err.is,
+      (λ e. c.recopy_first.ensures.truncated (c.in-Err.is ∙ ap Err e)),
+      (λ e. c.recopy_first.ensures.read_fault (c.in-Err.is ∙ ap Err e)),
+      (λ e. c.recopy_first.ensures.write_fault (c.in-Err.is ∙ ap Err e)),
+    ))
+
+pub returns-in-Ok-clause-complete : goal.returns-in-Ok-clause-complete
+returns-in-Ok-clause-complete g c =
+    rw c.in-Ok.ensures.plan (λ valid reads writes.
+    inr (status_at_fault c.recopy_first.result c.in-Err.fault c.in-Err.is ((simp c.as_slice.ensures at c.recopy_first.ensures.complete) valid reads writes)))
+
+pub returns-clause-fault : goal.returns-clause-fault
+returns-clause-fault g c = λ _ _. ok_and _ _ (c.read_words.ensures.no_memory (cc)) (λ plan. (
+  NoMemory,
+  refl,
+  no_memory_at_first plan.limits plan.columns _ _,
+  (λ e. absurd (cc)),
+  (λ e. absurd (cc)),
+  (λ e. absurd (cc)),
+))

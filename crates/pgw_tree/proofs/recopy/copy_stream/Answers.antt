@@ -1,70 +1,142 @@
-use Rattle.std.proofs.Common.{◌++◌, [], refl, arith}
-use Rattle.std.specs.List.{flat_map}
-use Rattle.pgw_wire.proofs.Taking.{took_then, took_both, no_front_then, no_front_begun}
-use Rattle.pgw_wire.proofs.Adding.{appends_then, appends_kept, appends_keeps, settled_then, gains_then, gains_both}
-use Rattle.pgw_tree.specs.Tree.{shapes}
+use Rattle.std.proofs.Common.{rules, ◌≡◌, ◌∙◌, ℕ, List, ◌++◌, length, Ok, refl, sym, ap, arith, subst, inl, inr, add-one, true, option_map}
+use Rattle.pgw_wire.proofs.Taking.{took_then, took_weaker}
+use Rattle.pgw_wire.proofs.Adding.{appends_then, settled_then}
 use Rattle.pgw_copy.specs.Format.{canonical_header, trailer}
-use Rattle.pgw_tree.specs.Canonical.{canonical_row, canonical_front, canonical_stream}
-use Rattle.pgw_tree.proofs.Ended.{HasEnd}
-use Rattle.pgw_tree.proofs.Streams.{within, stream_of, stream_begins, stream_splits}
-use Rattle.pgw_tree.proofs.Reading.{exit, reads_first, reads_later, reads_done, reads_sink_error, reads_write_fault, begins_whole}
+use Rattle.pgw_tree.specs.declared.fault.CopyFault.TheVariants.{WriteFault}
+use Rattle.pgw_tree.specs.Tree.{shapes}
+use Rattle.pgw_tree.specs.Canonical.{canonical_row, canonical_front}
+use Rattle.pgw_tree.specs.Handed.{limits_of}
+use Rattle.pgw_tree.specs.Faults.{fault_of}
+use Rattle.pgw_tree.specs.Causes.{fault_says, row_cause, IsCopying, in_row, in_end}
+use Rattle.pgw_tree.proofs.Parts.{fault_exit}
+use Rattle.pgw_tree.proofs.Copies.{front_more, within_more, none_copied, one_copied, part_written, keeps_same, header_says, says_at, told_after}
+use Rattle.pgw_copy.specs.Writer.{GainsFront}
 use Rattle.pgw_tree.proofs.recopy.copy_stream.Goals as goal
 
-pub returns-in_err-take_header-clause-reads : goal.returns-in_err-take_header-clause-reads
-returns-in_err-take_header-clause-reads g c =
-    reads_first _ _ (exit c.from_residual.result _ c.from_residual.ensures.1) c.in_err-take_header.ensures.reads (λ f. f) (λ w. absurd w)
-    (λ front v. stream_begins (shapes c.args.columns.now) front v)
-
-pub returns-in_err-rows-clause-reads : goal.returns-in_err-rows-clause-reads
-returns-in_err-rows-clause-reads g c =
+pub returns-in_err-reader-clause-fault : goal.returns-in_err-reader-clause-fault
+returns-in_err-reader-clause-fault g c =
     let ts = shapes c.args.columns.now in
-    let header = c.in_ok-take_header.ensures.reads.ok _ refl in
-    reads_later _ _ (exit c.from_residual-in_err-rows.result _ c.from_residual-in_err-rows.ensures.1) header c.in_err-rows.ensures.reads
-    (λ f. omega (arith, f, c.in_ok-take_header.ensures.faults)) (λ w. omega (arith, w, c.in_ok-send.ensures.faults))
-    (λ none. no_front_then {Q = HasEnd ts 0} header (no_front_begun none (begins_whole _ _ (λ front h. (h.0, h.1, omega (arith, h.2)))))
-    (λ x behind front rest h v e. stream_splits ts x behind front rest h v e))
+    let limits = limits_of c.args.limits in
+    let gained = g.K.Sink.gained c.args.sink.now in
+    let e = c.in_err-reader.field-0.0 in
+    says_at _ _ _ (fault_of e) (λ f. fault_says limits ts f gained gained) (fault_exit c.from_residual.result _ c.from_residual.ensures.1)
+    (took_weaker (c.in_err-reader.ensures.takes.err e refl) (λ x h. inl (header_says e x h, keeps_same gained)))
 
-pub returns-in_err-rows-clause-gains : goal.returns-in_err-rows-clause-gains
-returns-in_err-rows-clause-gains g c = gains_then _ _ _ _ c.in_ok-send.ensures.ok c.in_err-rows.ensures.gains
+pub loop-writer-init : goal.loop-writer-init
+loop-writer-init g c = record {
+  ready = c.in_ok-reader.ensures.reader;
+  few = omega arith;
+  took = took_weaker (c.in_ok-reader.ensures.takes.ok _ refl) (λ x h. none_copied (limits_of c.args.limits) (shapes c.args.columns.now) _ _ x h c.in_ok-header.ensures.ok);
+  settles = ap (option_map (λ _. true)) c.in_ok-header.ensures.settles ∙ told_after (length canonical_header) (g.K.Sink.settled c.args.sink.now);
+  after = (length canonical_header, c.in_ok-header.ensures.settles);
+  source_faults = search rules;
+  source_origin = search rules;
+  sink_faults = search rules;
+  sink_origin = search rules;
+}
 
-pub returns-in_err-send-2-clause-reads : goal.returns-in_err-send-2-clause-reads
-returns-in_err-send-2-clause-reads g c =
-    let error = c.in_err-send-2.ensures.err _ refl in
-    reads_sink_error _ _ (exit c.from_residual-in_err-send-2.result _ c.from_residual-in_err-send-2.ensures.1) error.0
-    (took_both (c.in_ok-take_header.ensures.reads.ok _ refl) (c.in_ok-rows.ensures.reads.ok _ refl))
-    (omega (arith, error.1, c.in_ok-send.ensures.faults, c.in_ok-rows.ensures.sink_faults))
-
-pub returns-in_err-send-2-clause-gains : goal.returns-in_err-send-2-clause-gains
-returns-in_err-send-2-clause-gains g c = gains_then _ _ _ _ c.in_ok-send.ensures.ok (gains_both _ _ _ c.in_ok-rows.ensures.gains c.in_err-send-2.ensures.gains)
-
-pub returns-in-Ok-clause-reads : goal.returns-in-Ok-clause-reads
-returns-in-Ok-clause-reads g c =
+pub returns-in_err-next_row-clause-fault : goal.returns-in_err-next_row-clause-fault
+returns-in_err-next_row-clause-fault g c =
     let ts = shapes c.args.columns.now in
-    reads_done _ _ _ (took_then (c.in_ok-take_header.ensures.reads.ok _ refl) (c.in_ok-rows.ensures.reads.ok _ refl) (λ x y h end.
-    let stream = stream_of ts x y end.0 h end.1 in
-    let rows = flat_map (canonical_row ts) end.0 in (
-      end.0,
-      stream,
-      within ts (x ++ y) end.0 stream (omega (arith, end.2, end.3)),
-      end.2,
-      appends_keeps _ _ _ (canonical_stream ts end.0)
-          (appends_then _ _ _ (canonical_front ts end.0) trailer (appends_then _ _ _ canonical_header rows c.in_ok-send.ensures.ok end.4) c.in_ok-send-2.ensures.ok)
-          c.in-Ok.ensures.gained,
-    )))
+    let limits = limits_of c.args.limits in
+    let before = g.K.Sink.gained c.args.sink.now in
+    let now = g.K.Sink.gained c.loop-writer.sink in
+    let e = c.in_err-next_row.field-0.0 in
+    says_at _ _ _ e (λ f. fault_says limits ts f before now) (fault_exit c.from_residual-in_err-next_row.result _ c.from_residual-in_err-next_row.ensures.1)
+    (took_then c.loop-writer.invariant.took (c.in_err-next_row.ensures.takes.err e refl) (λ x y k cause. inr (inl (record {
+      front = x;
+      behind = y;
+      rows = k.rows;
+      begins = k.begins;
+      within = k.within;
+      is = refl;
+      cause = subst (λ (n : ℕ). row_cause limits ts n e y) (sym k.many) cause;
+      added = k.added;
+    }))))
 
-pub returns-in-Ok-clause-gains : goal.returns-in-Ok-clause-gains
-returns-in-Ok-clause-gains g c =
-    gains_then _ _ _ _ c.in_ok-send.ensures.ok (gains_both _ _ _ c.in_ok-rows.ensures.gains (gains_then _ _ _ _ c.in_ok-send-2.ensures.ok ([], appends_kept _ _ c.in-Ok.ensures.gained)))
+pub returns-in_err-send_row-clause-fault : goal.returns-in_err-send_row-clause-fault
+returns-in_err-send_row-clause-fault g c =
+    let ts = shapes c.args.columns.now in
+    let limits = limits_of c.args.limits in
+    let before = g.K.Sink.gained c.args.sink.now in
+    let mid = g.K.Sink.gained c.loop-writer.sink in
+    let now = g.K.Sink.gained c.send_row.new.sink in
+    let turn = rw c.if-branch.true at (c.in_ok-next_row.ensures.takes.ok _ refl) in
+    let more = c.in_ok-next_row.ensures.more (ap Ok c.if-branch.true) in
+    says_at _ _ _ WriteFault (λ f. fault_says limits ts f before now) (fault_exit c.from_residual-in_err-send_row.result _ c.from_residual-in_err-send_row.ensures.1)
+    (took_then c.loop-writer.invariant.took turn (λ x y k row. inr (inr (
+      refl,
+      in_row k.rows row.0 (front_more limits.field_max ts x y k.rows row.0 k.begins row.1) (within_more limits ts k.rows row.0 k.within (omega (arith, more, k.many)) row.1.fit)
+          (part_written (canonical_front ts k.rows) (canonical_row ts row.0) before mid now _ _ k.added (subst (λ (l : List ℕ). GainsFront mid now (g.K.Sink.settled c.loop-writer.sink) (g.K.Sink.settled c.send_row.new.sink) l) row.2 c.in_err-send_row.ensures.err)),
+    ))))
 
-pub returns-in-Err-clause-reads : goal.returns-in-Err-clause-reads
-returns-in-Err-clause-reads g c =
-    reads_write_fault _ _ (took_both (c.in_ok-take_header.ensures.reads.ok _ refl) (c.in_ok-rows.ensures.reads.ok _ refl))
-    (omega (arith, c.in-Err.ensures.failed, c.in_ok-send.ensures.faults, c.in_ok-rows.ensures.sink_faults, c.in_ok-send-2.ensures.faults))
+pub loop-writer-preserved : goal.loop-writer-preserved
+loop-writer-preserved g c =
+    let ts = shapes c.args.columns.now in
+    let limits = limits_of c.args.limits in
+    let turn = rw c.if-branch.true at (c.in_ok-next_row.ensures.takes.ok _ refl) in
+    let more = c.in_ok-next_row.ensures.more (ap Ok c.if-branch.true) in
+    record {
+      ready = c.in_ok-next_row.ensures.ready (ap Ok c.if-branch.true);
+      few = omega (arith, more);
+      took = took_then c.loop-writer.invariant.took turn (λ x y k row.
+          subst (λ (n : ℕ). IsCopying limits ts n (g.K.Sink.gained c.args.sink.now) (g.K.Sink.gained c.send_row.new.sink) (x ++ y)) (sym (add-one c.loop-writer.rows))
+          (one_copied limits ts c.loop-writer.rows _ _ _ x y c.next_row.new.writer.bytes row.0 k more row.1 row.2 c.in_ok-send_row.ensures.ok));
+      settles = ap (option_map (λ _. true)) c.in_ok-send_row.ensures.settles ∙ told_after (length c.next_row.new.writer.bytes) (g.K.Sink.settled c.loop-writer.sink) ∙ c.loop-writer.invariant.settles;
+      after = settled_then _ _ _ c.loop-writer.invariant.after (length c.next_row.new.writer.bytes, c.in_ok-send_row.ensures.settles);
+      source_faults = search rules;
+      source_origin = search rules;
+      sink_faults = search rules;
+      sink_origin = search rules;
+    }
 
-pub returns-in-Err-clause-gains : goal.returns-in-Err-clause-gains
-returns-in-Err-clause-gains g c =
-    gains_then _ _ _ _ c.in_ok-send.ensures.ok (gains_both _ _ _ c.in_ok-rows.ensures.gains (gains_then _ _ _ _ c.in_ok-send-2.ensures.ok ([], appends_kept _ _ c.in-Err.ensures.gained)))
+pub returns-in_err-trailer-clause-fault : goal.returns-in_err-trailer-clause-fault
+returns-in_err-trailer-clause-fault g c =
+    let ts = shapes c.args.columns.now in
+    let limits = limits_of c.args.limits in
+    let before = g.K.Sink.gained c.args.sink.now in
+    let mid = g.K.Sink.gained c.loop-writer.sink in
+    let now = g.K.Sink.gained c.trailer.new.sink in
+    let turn = rw c.if-branch.false at (c.in_ok-next_row.ensures.takes.ok _ refl) in
+    says_at _ _ _ WriteFault (λ f. fault_says limits ts f before now) (fault_exit c.from_residual-in_err-trailer.result _ c.from_residual-in_err-trailer.ensures.1)
+    (took_then c.loop-writer.invariant.took turn (λ x y k end. inr (inr (
+      refl,
+      in_end k.rows x k.begins k.within (ap (λ l. x ++ l) end) (part_written (canonical_front ts k.rows) trailer before mid now _ _ k.added c.in_err-trailer.ensures.err),
+    ))))
 
-pub returns-in-Err-clause-unsettled : goal.returns-in-Err-clause-unsettled
-returns-in-Err-clause-unsettled g c =
-    settled_then _ _ _ (settled_then _ _ _ c.in_ok-send.ensures.settles (settled_then _ _ _ c.in_ok-rows.ensures.settles c.in_ok-send-2.ensures.settles)) (0, c.in-Err.ensures.err)
+pub returns-clause-copied : goal.returns-clause-copied
+returns-clause-copied g c = λ n is.
+    let ts = shapes c.args.columns.now in
+    let limits = limits_of c.args.limits in
+    let before = g.K.Sink.gained c.args.sink.now in
+    let mid = g.K.Sink.gained c.loop-writer.sink in
+    let now = g.K.Sink.gained c.trailer.new.sink in
+    let turn = rw c.if-branch.false at (c.in_ok-next_row.ensures.takes.ok _ refl) in
+    let same : c.loop-writer.rows ≡ n = cc in
+    took_then c.loop-writer.invariant.took turn (λ x y k end. record {
+      rows = k.rows;
+      stream = record { front = x; begins = k.begins; is = ap (λ l. x ++ l) end };
+      within = k.within;
+      many = k.many ∙ same;
+      added = appends_then before mid now (canonical_front ts k.rows) trailer k.added c.in_ok-trailer.ensures.ok;
+    })
+
+pub returns-in_err-reader-clause-unsettled : goal.returns-in_err-reader-clause-unsettled
+returns-in_err-reader-clause-unsettled g c = rw (fault_exit c.from_residual.result _ c.from_residual.ensures.1) (0, refl)
+
+pub returns-in_err-header-clause-unsettled : goal.returns-in_err-header-clause-unsettled
+returns-in_err-header-clause-unsettled g c =
+    rw (fault_exit c.from_residual-in_err-header.result _ c.from_residual-in_err-header.ensures.1) (length c.in_err-header.ensures.err.front, c.in_err-header.ensures.err.settles)
+
+pub returns-in_err-next_row-clause-unsettled : goal.returns-in_err-next_row-clause-unsettled
+returns-in_err-next_row-clause-unsettled g c = rw (fault_exit c.from_residual-in_err-next_row.result _ c.from_residual-in_err-next_row.ensures.1) c.loop-writer.invariant.after
+
+pub returns-in_err-send_row-clause-unsettled : goal.returns-in_err-send_row-clause-unsettled
+returns-in_err-send_row-clause-unsettled g c =
+    let part = c.in_err-send_row.ensures.err in
+    rw (fault_exit c.from_residual-in_err-send_row.result _ c.from_residual-in_err-send_row.ensures.1) (settled_then _ _ _ c.loop-writer.invariant.after (length part.front, part.settles))
+
+pub returns-in_err-trailer-clause-unsettled : goal.returns-in_err-trailer-clause-unsettled
+returns-in_err-trailer-clause-unsettled g c =
+    let part = c.in_err-trailer.ensures.err in
+    rw (fault_exit c.from_residual-in_err-trailer.result _ c.from_residual-in_err-trailer.ensures.1) (settled_then _ _ _ c.loop-writer.invariant.after (length part.front, part.settles))

@@ -1,0 +1,169 @@
+-- What is kept of the words that were read, with one word more.
+use Rattle.std.proofs.Common.{◌≡◌, ℕ, ◌+◌, ◌≤◌, ◌&&◌, List, [], ◌∷◌, ◌++◌, length, codes, Option, None, Some, option_map, Ok, Bool, true, false, refl, sym, ap, ◌∙◌, arith, rules, if◌then◌else◌}
+use Rattle.std.proofs.lemmas.Bool.{ne_eqb}
+use Rattle.std.proofs.lemmas.List.{append-nil, length-append}
+use Rattle.std.proofs.lemmas.List.Elements.{filter_map-append}
+use Rattle.std.proofs.lemmas.List.Folds.{list_all-append}
+use Rattle.std.specs.List.{filter_map, list_all}
+use Rattle.std.specs.Option.{is_some, is_none, option_or}
+use Rattle.std.specs.Result.{result_err}
+use Rattle.std.specs.Str.Parse.{digits_value}
+use Rattle.pgw_tree.specs.Tree.{Shape, shape}
+use Rattle.pgw_tree.specs.declared.types.FirstType.{FirstType}
+use Rattle.pgcopy.specs.declared.words.WordFault.TheVariants.{NotYet}
+use Rattle.pgcopy.specs.declared.words.Seen.{Seen}
+use Rattle.pgcopy.specs.Words.{type_of, behind, is_option, number_of, digits_in, option_fault, fault_of}
+use Rattle.pgcopy.specs.Seen.{HasSeen}
+use Rattle.pgcopy.proofs.Options.{behind_is}
+
+digits_kept : (front word : List ℕ) (before : List (List ℕ)) → behind front word ≡ None → digits_in front (before ++ word ∷ []) ≡ digits_in front before
+digits_kept front word [] e = rw e refl
+digits_kept front word (w ∷ before) e = ap (option_or (behind front w)) (digits_kept front word before e)
+
+digits_added : (front word digits : List ℕ) (before : List (List ℕ)) → behind front word ≡ Some digits → digits_in front before ≡ None → digits_in front (before ++ word ∷ []) ≡ Some digits
+digits_added front word digits [] e none = rw e refl
+digits_added front word digits (w ∷ before) e none = by (behind front w) refl (digits_added front word digits before e)
+  where
+    no : (x : List ℕ) → Some x ≡ None → ⊥
+    no x k = cc
+
+    by : (r : Option (List ℕ)) → behind front w ≡ r → (digits_in front before ≡ None → digits_in front (before ++ word ∷ []) ≡ Some digits) → digits_in front ((w ∷ before) ++ word ∷ []) ≡ Some digits
+    by None is more = let k : digits_in front before ≡ None = (rw is at none) in rw is (more k)
+    by (Some x) is more = let k : Some x ≡ None = (rw is at none) in absurd (no x k)
+
+types_kept : (word : List ℕ) (before : List (List ℕ)) → type_of word ≡ None → length (filter_map type_of (before ++ word ∷ [])) ≡ length (filter_map type_of before)
+types_kept word before e = ap length (filter_map-append type_of before (word ∷ []) ∙ ap (λ ts. filter_map type_of before ++ ts) (none_of e) ∙ append-nil _)
+  where
+    none_of : type_of word ≡ None → filter_map type_of (word ∷ []) ≡ []
+    none_of e = rw e refl
+
+types_added : (word : List ℕ) (t : Shape) (before : List (List ℕ)) → type_of word ≡ Some t → length (filter_map type_of (before ++ word ∷ [])) ≡ length (filter_map type_of before) + 1
+types_added word t before e = ap length (filter_map-append type_of before (word ∷ []) ∙ ap (λ ts. filter_map type_of before ++ ts) (one_of e)) ∙ length-append (filter_map type_of before) (t ∷ [])
+  where
+    one_of : type_of word ≡ Some t → filter_map type_of (word ∷ []) ≡ t ∷ []
+    one_of e = rw e refl
+
+-- there are no more types than words
+pub types_few : (words : List (List ℕ)) → length (filter_map type_of words) ≤ length words
+types_few [] = omega arith
+types_few (w ∷ words) = by (type_of w) refl (types_few words)
+  where
+    by : (t : Option Shape) → type_of w ≡ t → length (filter_map type_of words) ≤ length words → length (filter_map type_of (w ∷ words)) ≤ length (w ∷ words)
+    by None is more = rw is (omega (arith, more))
+    by (Some t) is more = rw is (omega (arith, more))
+
+and_true : (b : Bool) → (b && true) ≡ b
+and_true true = refl
+and_true false = refl
+
+all_added : (word : List ℕ) (before : List (List ℕ)) → list_all is_option (before ++ word ∷ []) ≡ (list_all is_option before && is_option word)
+all_added word before = list_all-append is_option before (word ∷ []) ∙ ap (λ b. list_all is_option before && b) (and_true (is_option word))
+
+-- the number that an option gave
+number_given : (most n : ℕ) (digits : List ℕ) (again : Bool) → Ok n ≡ number_of most digits again → (again ≡ false) × (n ≡ digits_value 10 digits) × (n ≤ most)
+number_given most n digits again h = search rules
+
+rows_is_no_type : (rest : List ℕ) → type_of (codes "rows=" ++ rest) ≡ None
+rows_is_no_type rest = refl
+
+rows_is_no_field : (rest : List ℕ) → behind (codes "field=") (codes "rows=" ++ rest) ≡ None
+rows_is_no_field rest = refl
+
+field_is_no_type : (rest : List ℕ) → type_of (codes "field=" ++ rest) ≡ None
+field_is_no_type rest = refl
+
+oid_is_no_type : (rest : List ℕ) → type_of (codes "oid=" ++ rest) ≡ None
+oid_is_no_type rest = refl
+
+rows_is_option : (rest : List ℕ) → is_option (codes "rows=" ++ rest) ≡ true
+rows_is_option rest = refl
+
+field_is_no_rows : (rest : List ℕ) → behind (codes "rows=") (codes "field=" ++ rest) ≡ None
+field_is_no_rows rest = refl
+
+-- a type is no option
+type_is_plain : (word : List ℕ) (t : Shape) → type_of word ≡ Some t → (behind (codes "rows=") word ≡ None) × (behind (codes "field=") word ≡ None) × (behind (codes "oid=") word ≡ None)
+type_is_plain word t e = (
+  by (codes "rows=") rows_is_no_type (behind (codes "rows=") word) refl,
+  by (codes "field=") field_is_no_type (behind (codes "field=") word) refl,
+  by (codes "oid=") oid_is_no_type (behind (codes "oid=") word) refl,
+)
+  where
+    no : None ≡ Some t → ⊥
+    no h = cc
+
+    by : (front : List ℕ) → ((rest : List ℕ) → type_of (front ++ rest) ≡ None) → (r : Option (List ℕ)) → behind front word ≡ r → r ≡ None
+    by front none None is = refl
+    by front none (Some rest) is = absurd (no (sym (none rest) ∙ sym (ap type_of (behind_is front word rest is)) ∙ e))
+
+none_if : {A : Type 0} → (r : Option A) → is_some r ≡ false → r ≡ None
+none_if None h = refl
+none_if (Some x) h = cc
+
+is_some_map : {A B : Type 0} → (f : A → B) (r : Option A) → is_some (option_map f r) ≡ is_some r
+is_some_map f None = refl
+is_some_map f (Some x) = refl
+
+-- the type that a word names
+pub type_named : (word : List ℕ) (r : Option FirstType) → option_map shape r ≡ type_of word → is_some r ≡ true → (t : Shape) × (type_of word ≡ Some t)
+type_named word (Some t) e h = (shape t, sym e)
+type_named word None e h = cc
+
+pub rows_seen : (seen : Seen) (n : ℕ) (word digits : List ℕ) (before : List (List ℕ)) → HasSeen seen before → list_all is_option before ≡ true → behind (codes "rows=") word ≡ Some digits → Ok n ≡ number_of 18446744073709551615 digits (is_some seen.rows) → (option_fault before word ≡ None) × HasSeen (record seen { rows = Some n }) (before ++ word ∷ [])
+rows_seen seen n word digits before h all is given =
+    let e : word ≡ codes "rows=" ++ digits = behind_is (codes "rows=") word digits is in
+    let again : is_some seen.rows ≡ is_some (digits_in (codes "rows=") before) = ap is_some h.rows ∙ is_some_map _ _ in
+    let parts = number_given 18446744073709551615 n digits (is_some seen.rows) given in
+    let none : digits_in (codes "rows=") before ≡ None = none_if _ (sym again ∙ parts.0) in
+    let no_type : type_of word ≡ None = ap type_of e ∙ rows_is_no_type digits in
+    let no_field : behind (codes "field=") word ≡ None = ap (behind (codes "field=")) e ∙ rows_is_no_field digits in
+    let option : is_option word ≡ true = ap is_option e ∙ rows_is_option digits in
+    let whole : list_all is_option (before ++ word ∷ []) ≡ true = all_added word before ∙ rw (all, option) refl in (
+      rw is (ap (λ b. result_err (number_of 18446744073709551615 digits b)) (sym again) ∙ ap result_err (sym given)),
+      record {
+        rows = ap Some parts.1 ∙ sym (ap (option_map (digits_value 10)) (digits_added (codes "rows=") word digits before is none));
+        field = h.field ∙ sym (ap (option_map (digits_value 10)) (digits_kept (codes "field=") word before no_field));
+        field_fits = h.field_fits;
+        types = h.types ∙ sym (types_kept word before no_type);
+        begun = h.begun ∙ all ∙ sym whole;
+      },
+    )
+
+pub field_seen : (seen : Seen) (n : ℕ) (word digits : List ℕ) (before : List (List ℕ)) → HasSeen seen before → list_all is_option before ≡ true → behind (codes "field=") word ≡ Some digits → Ok n ≡ number_of 2147483647 digits (is_some seen.field) → (option_fault before word ≡ None) × HasSeen (record seen { field = Some n }) (before ++ word ∷ [])
+field_seen seen n word digits before h all is given =
+    let e : word ≡ codes "field=" ++ digits = behind_is (codes "field=") word digits is in
+    let again : is_some seen.field ≡ is_some (digits_in (codes "field=") before) = ap is_some h.field ∙ is_some_map _ _ in
+    let parts = number_given 2147483647 n digits (is_some seen.field) given in
+    let none : digits_in (codes "field=") before ≡ None = none_if _ (sym again ∙ parts.0) in
+    let no_type : type_of word ≡ None = ap type_of e ∙ field_is_no_type digits in
+    let no_rows : behind (codes "rows=") word ≡ None = ap (behind (codes "rows=")) e ∙ field_is_no_rows digits in
+    let option : is_option word ≡ true = rw (no_rows, is) refl in
+    let whole : list_all is_option (before ++ word ∷ []) ≡ true = all_added word before ∙ rw (all, option) refl in (
+      rw (no_rows, is) (ap (λ b. result_err (number_of 2147483647 digits b)) (sym again) ∙ ap result_err (sym given)),
+      record {
+        rows = h.rows ∙ sym (ap (option_map (digits_value 10)) (digits_kept (codes "rows=") word before no_rows));
+        field = ap Some parts.1 ∙ sym (ap (option_map (digits_value 10)) (digits_added (codes "field=") word digits before is none));
+        field_fits = parts.2;
+        types = h.types ∙ sym (types_kept word before no_type);
+        begun = h.begun ∙ all ∙ sym whole;
+      },
+    )
+
+and_false : (b : Bool) → (b && false) ≡ false
+and_false true = refl
+and_false false = refl
+
+pub type_seen : (seen : Seen) (t : Shape) (word : List ℕ) (before : List (List ℕ)) → HasSeen seen before → type_of word ≡ Some t → (fault_of before word ≡ None) × HasSeen (record seen { types = seen.types + 1 }) (before ++ word ∷ [])
+type_seen seen t word before h is =
+    let plain = type_is_plain word t is in
+    let option : is_option word ≡ false = rw (plain.0, plain.1, plain.2) refl in
+    let mixed : (list_all is_option before && is_option word) ≡ false = ap (λ b. list_all is_option before && b) option ∙ and_false _ in (
+      ap (λ b. if b then option_fault before word else if is_none (type_of word) then Some NotYet else None) mixed ∙ rw is refl,
+      record {
+        rows = h.rows ∙ sym (ap (option_map (digits_value 10)) (digits_kept (codes "rows=") word before plain.0));
+        field = h.field ∙ sym (ap (option_map (digits_value 10)) (digits_kept (codes "field=") word before plain.1));
+        field_fits = h.field_fits;
+        types = ap (λ n. n + 1) h.types ∙ sym (types_added word t before is);
+        begun = ne_eqb (seen.types + 1) 0 (λ e. omega (arith, e)) ∙ sym (all_added word before ∙ mixed);
+      },
+    )

@@ -1,0 +1,5 @@
+use Rattle.pgcopy.proofs.Options.{strips}
+use Rattle.pgcopy.proofs.words.behind.Goals as goal
+
+pub returns : goal.returns
+returns c = strips c.args.front.now c.args.word.now c.strip_prefix.result c.strip_prefix.ensures.cases

@@ -1,0 +1,39 @@
+-- What the cells of a row say, column by column, and the first column that can't be written.
+use Rattle.std.specs.Prelude.{◌≡◌, ◌≤◌, ℕ, List, ◌∷◌, ◌++◌, length}
+use Rattle.pgw_wire.specs.Cell.{Cell}
+use Rattle.pgw_wire.specs.declared.kind.Break.{Break}
+use Rattle.pgw_tree.specs.Tree.{Shape, Value}
+use Rattle.pgw_tree.specs.Spells.{Spells, SpellsRow, Fits, FitsRow}
+use Rattle.pgw_tree.specs.Breaks.{Breaks}
+
+-- The columns in front of one, whose cells spell values that fit, and that column with its cell.
+pub record IsBehind (most : ℕ) (columns : List Shape) (cells : List Cell) (column : ℕ) (t : Shape) (cell : Cell) : Type 0 where
+  pub before : List Shape
+  pub after : List Shape
+  pub spelling : List Cell
+  pub rest : List Cell
+  pub values : List Value
+  pub columns_are : columns ≡ before ++ (t ∷ after)
+  pub cells_are : cells ≡ spelling ++ (cell ∷ rest)
+  pub place : length before ≡ column
+  pub spelled : SpellsRow before spelling values
+  pub each : length spelling ≡ length before
+  pub fit : FitsRow most before values
+
+-- Of a row with a cell for each column, this column's breaks in this kind, and those before spell values that fit.
+pub record BreaksAt (most : ℕ) (columns : List Shape) (cells : List Cell) (column : ℕ) (kind : Break) : Type 0 where
+  pub enough : length columns ≤ length cells
+  pub t : Shape
+  pub cell : Cell
+  pub behind : IsBehind most columns cells column t cell
+  pub breaks : Breaks t kind cell
+
+-- Of a row with a cell for each column, this column's spells a value that is too long, and those before fit.
+pub record IsLongAt (most : ℕ) (columns : List Shape) (cells : List Cell) (column : ℕ) : Type 0 where
+  pub enough : length columns ≤ length cells
+  pub t : Shape
+  pub cell : Cell
+  pub value : Value
+  pub behind : IsBehind most columns cells column t cell
+  pub spells : Spells t cell value
+  pub long : Fits most t value → ⊥

@@ -1,0 +1,170 @@
+ghost use Rattle.std.specs.Prelude.{◌≡◌, ◌<◌, ◌≤◌, ◌^◌, ◌++◌, List, ℕ, length, Some, IfSome, IsNone, IfErr, OnOk, OnErr, Err};
+ghost use Rattle.std.specs.List.{flat_map};
+ghost use Rattle.std.specs.Str.{is_utf8};
+ghost use Rattle.pgw_wire.specs.Cell.{Cell, cell_of, frame};
+ghost use Rattle.pgw_copy.specs.State.{cells_of};
+ghost use Rattle.pgw_tree.specs.Tree.{Value, shape, shapes, int4, text};
+ghost use Rattle.pgw_tree.specs.Spells.{SpellsPiece, Spells, SpellsRow, Fits, FitsRow, canonical_cell};
+ghost use Rattle.pgw_tree.specs.Breaks.{BreaksPiece, Breaks};
+ghost use Rattle.pgw_tree.specs.Columns.{BreaksAt, IsLongAt};
+ghost use Rattle.pgw_tree.specs.Canonical.{canonical_cells};
+
+use crate::FirstType;
+use pgw_copy::RawRow;
+use pgw_wire::{Break, ByteBuffer, NoMemory as NoMemoryLeft, RawCell};
+
+/// The length -1, which a null is written as.
+const NULL: [u8; 4] = [0xff; 4];
+
+/// Whether the bytes are UTF-8.
+fn is_text(bytes: &[u8]) -> bool
+    ensures { result ≡ is_utf8 bytes.now }
+{
+    str::from_utf8(bytes).is_ok()
+}
+
+/// In which kind the piece breaks as an int4, which any four bytes spell.
+fn break_of_int4(piece: &[u8]) -> Option<Break>
+    ensures some { IfSome result (λ kind. BreaksPiece int4 kind piece.now) }
+    ensures none { IsNone result → (v : Value) × SpellsPiece int4 piece.now v }
+{
+    if piece.len() == 4 {
+        None
+    } else {
+        Some(Break::Size)
+    }
+}
+
+/// In which kind the piece breaks as a text, which any UTF-8 spells.
+fn break_of_text(piece: &[u8]) -> Option<Break>
+    ensures some { IfSome result (λ kind. BreaksPiece text kind piece.now) }
+    ensures none { IsNone result → (v : Value) × SpellsPiece text piece.now v }
+{
+    if is_text(piece) {
+        None
+    } else {
+        Some(Break::Utf8)
+    }
+}
+
+/// In which kind the cell breaks. None where it spells a value.
+fn break_of(column: FirstType, cell: RawCell<'_>) -> Option<Break>
+    ensures some { IfSome result (λ kind. Breaks (shape column) kind (cell_of cell.entry)) }
+    ensures none { IsNone result → (v : Value) × Spells (shape column) (cell_of cell.entry) v }
+{
+    match (column, cell) {
+        (FirstType::Int4 | FirstType::Text, RawCell::Null) => Some(Break::Null),
+        (FirstType::Int4Null | FirstType::TextNull, RawCell::Null) => None,
+        (FirstType::Int4 | FirstType::Int4Null, RawCell::Piece(piece)) => break_of_int4(piece),
+        (FirstType::Text | FirstType::TextNull, RawCell::Piece(piece)) => break_of_text(piece),
+    }
+}
+
+/// Why the field of a cell was not appended.
+pub(crate) enum CellFault {
+    /// The cell breaks in this kind.
+    Break(Break),
+    /// The value's canonical bytes are more than the limit.
+    TooLong,
+    /// Memory was asked for and refused.
+    NoMemory,
+}
+
+impl From<NoMemoryLeft> for CellFault {
+    ghost use Rattle.pgw_tree.specs.declared.cells.CellFault.TheVariants.{NoMemory as no_memory};
+
+    ghost from_gives = { λ _ e. e ≡ no_memory };
+
+    fn from(_: NoMemoryLeft) -> CellFault {
+        CellFault::NoMemory
+    }
+}
+
+/// Appends the canonical field of the value that the cell spells. Where memory is refused, a part of it may be
+/// appended.
+fn push_field(
+    column: FirstType,
+    cell: RawCell<'_>,
+    field_max: u32,
+    out: &mut ByteBuffer,
+) -> Result<(), CellFault>
+    ensures ok { OnOk result ((v : Value) × Spells (shape column) (cell_of cell.entry) v × Fits field_max (shape column) v
+        × (out.new.bytes ≡ out.old.bytes ++ frame (canonical_cell (shape column) v))) }
+    ensures broken { (kind : _) → result ≡ Err (CellFault.Break kind) → Breaks (shape column) kind (cell_of cell.entry) }
+    ensures long { result ≡ Err CellFault.TooLong
+        → (v : Value) × Spells (shape column) (cell_of cell.entry) v × (Fits field_max (shape column) v → ⊥) }
+{
+    if let Some(kind) = break_of(column, cell) {
+        return Err(CellFault::Break(kind));
+    }
+    match cell {
+        RawCell::Null => out.push_all(&NULL)?,
+        RawCell::Piece(piece) => {
+            if piece.len() > field_max as usize {
+                return Err(CellFault::TooLong);
+            }
+            out.push_all(&(piece.len() as u32).to_be_bytes())?;
+            out.push_all(piece)?;
+        }
+    }
+    Ok(())
+}
+
+/// Why the fields of a row were not appended.
+pub(crate) enum RowFault {
+    /// It has fewer fields than there are columns.
+    TooFew,
+    /// The cell of this column breaks in this kind.
+    BadValue { column: usize, kind: Break },
+    /// The value of this column has more canonical bytes than the limit.
+    TooLong { column: usize },
+    /// Memory was asked for and refused.
+    NoMemory,
+}
+
+/// Appends the canonical fields of the values that the first cells of a row spell, column by column. Behind an error
+/// a part of them may be appended.
+pub(crate) fn push_columns(
+    columns: &[FirstType],
+    row: &RawRow<'_>,
+    field_max: u32,
+    out: &mut ByteBuffer,
+) -> Result<(), RowFault>
+    ensures ok { OnOk result ((values : List Value) × SpellsRow (shapes columns.now) (cells_of row.now) values
+        × FitsRow field_max (shapes columns.now) values
+        × (out.new.bytes ≡ out.old.bytes ++ flat_map frame (canonical_cells (shapes columns.now) values))) }
+    ensures too_few { result ≡ Err RowFault.TooFew → length (cells_of row.now) < length columns.now }
+    ensures bad_value { (column : _) (kind : _) → result ≡ Err (RowFault.BadValue column kind)
+        → BreaksAt field_max (shapes columns.now) (cells_of row.now) column kind }
+    ensures too_long { (column : _) → result ≡ Err (RowFault.TooLong column)
+        → IsLongAt field_max (shapes columns.now) (cells_of row.now) column }
+{
+    if row.len() < columns.len() {
+        return Err(RowFault::TooFew);
+    }
+    for (place, column) in columns.iter().enumerate() {
+        let cell = row.get(place).unwrap();
+        match push_field(*column, cell, field_max, out) {
+            Ok(()) => {}
+            Err(CellFault::Break(kind)) => {
+                return Err(RowFault::BadValue {
+                    column: place,
+                    kind,
+                });
+            }
+            Err(CellFault::TooLong) => return Err(RowFault::TooLong { column: place }),
+            Err(CellFault::NoMemory) => return Err(RowFault::NoMemory),
+        }
+    }
+    Ok(())
+}
+
+impl From<NoMemoryLeft> for RowFault {
+    ghost use Rattle.pgw_tree.specs.declared.cells.RowFault.TheVariants.{NoMemory as no_memory};
+
+    ghost from_gives = { λ _ e. e ≡ no_memory };
+
+    fn from(_: NoMemoryLeft) -> RowFault {
+        RowFault::NoMemory
+    }
+}

@@ -1,0 +1,44 @@
+ghost use Rattle.std.specs.Prelude.{◌≡◌, ◌↔◌, ◌<◌, IfSome, IsNone};
+ghost use Rattle.pgw_tree.specs.Handed.{limits_of};
+
+/// The longest field that PostgreSQL's format can state.
+const FIELD_MAX: u32 = i32::MAX as u32;
+
+/// How much is copied at most.
+#[derive(Clone, Copy, Debug, PartialEq, Eq)]
+pub struct Limits {
+    rows_max: u64,
+    field_max: u32,
+}
+
+impl Limits {
+    /// At most `rows_max` rows, and canonical fields of at most `field_max` bytes. None exactly where `field_max` passes
+    /// 2147483647, the longest field that the format can state.
+    pub fn new(rows_max: u64, field_max: u32) -> Option<Limits>
+        ensures some { IfSome result (λ limits. limits_of limits ≡ record { rows_max = rows_max; field_max = field_max }) }
+        ensures none { IsNone result ↔ (2147483647 < field_max) }
+    {
+        if field_max > FIELD_MAX {
+            None
+        } else {
+            Some(Limits {
+                rows_max,
+                field_max,
+            })
+        }
+    }
+
+    /// How many rows are copied at most.
+    pub fn rows_max(&self) -> u64
+        ensures { result ≡ (limits_of self.now).rows_max }
+    {
+        self.rows_max
+    }
+
+    /// How many bytes a canonical field has at most.
+    pub fn field_max(&self) -> u32
+        ensures { result ≡ (limits_of self.now).field_max }
+    {
+        self.field_max
+    }
+}
