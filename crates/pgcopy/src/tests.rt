@@ -12,6 +12,10 @@ const EMPTY: &[u8] = b"PGCOPY\n\xff\r\n\0\0\0\0\0\0\0\0\0\xff\xff";
 // a stream of one row, the number 42
 const ONE_ROW: &[u8] = b"PGCOPY\n\xff\r\n\0\0\0\0\0\0\0\0\0\0\x01\0\0\0\x04\0\0\0\x2a\xff\xff";
 
+// the rows 42 and 43
+const TWO_ROWS: &[u8] =
+    b"PGCOPY\n\xff\r\n\0\0\0\0\0\0\0\0\0\0\x01\0\0\0\x04\0\0\0\x2a\0\x01\0\0\0\x04\0\0\0\x2b\xff\xff";
+
 /// What a run gave and left.
 #[derive(Drop)]
 struct Ended {
@@ -21,8 +25,8 @@ struct Ended {
     taken: usize,
 }
 
-/// Runs on words and input in memory. The reads give at most as many bytes as `cuts` says, and those with the numbers
-/// in `read_fails` fail, as do the sink's calls with the numbers in `write_fails`.
+/// Runs on words and input in memory. Reads give and writes take at most as many bytes as `cuts` says. The reads with
+/// the numbers in `read_fails` fail, and the sink's calls with the numbers in `write_fails`.
 fn run_on(
     alloc: Global,
     words: &[&str],
@@ -36,11 +40,12 @@ fn run_on(
         texts.push(String::from_str(alloc, word)?)?;
     }
     let bytes = Vec::from_slice(alloc, input)?;
-    let cuts = Vec::from_slice(alloc, cuts)?;
+    let read_cuts = Vec::from_slice(alloc, cuts)?;
+    let write_cuts = Vec::from_slice(alloc, cuts)?;
     let read_fails = Vec::from_slice(alloc, read_fails)?;
     let write_fails = Vec::from_slice(alloc, write_fails)?;
-    let mut source = MemorySource::new(bytes, cuts, read_fails);
-    let mut output = MemorySink::new(alloc, Vec::new(alloc), write_fails);
+    let mut source = MemorySource::new(bytes, read_cuts, read_fails);
+    let mut output = MemorySink::new(alloc, write_cuts, write_fails);
     let mut line = MemorySink::new(alloc, Vec::new(alloc), Vec::new(alloc));
     let status = run(alloc, &texts, &mut source, &mut output, &mut line);
     Ok(Ended {
@@ -325,5 +330,74 @@ fn stream_cut_anywhere_is_refused(rt: HostRuntime) {
             _ => 29,
         };
         assert_eq!(rt; ended.output.gained(), &whole[..written], "at {len}");
+    }
+}
+
+#[test]
+fn limit_is_met_at_the_next_count(rt: HostRuntime) {
+    for len in 0..=TWO_ROWS.len() {
+        let line: &[u8] = if len < 31 {
+            b"truncated\n"
+        } else {
+            b"row limit\n"
+        };
+        let written = match len {
+            0..19 => 0,
+            19..29 => 19,
+            _ => 29,
+        };
+        let words = &["copy", "rows=1", "int4"];
+        let ended = run_on(rt.alloc(), words, &TWO_ROWS[..len], &[1; 80], &[], &[]).expect(
+            &rt, "memory",
+        );
+        assert_eq!(rt; ended.status, Status::Refused, "at {len}");
+        assert_eq!(rt; ended.line.gained(), line, "at {len}");
+        assert_eq!(rt; ended.output.gained(), &TWO_ROWS[..written], "at {len}");
+    }
+}
+
+#[test]
+fn call_that_fails_once_is_told(rt: HostRuntime) {
+    let table: [(&[&str], &[u8], &[u8]); 2] = [
+        (&["copy", "int4"], &TWO_ROWS[..38], b"truncated\n"),
+        (&["copy", "rows=1", "int4"], TWO_ROWS, b"row limit\n"),
+    ];
+    for (words, input, line) in table {
+        for call in 0..45 {
+            let ended = run_on(rt.alloc(), words, input, &[1; 80], &[call], &[]).expect(
+                &rt, "memory",
+            );
+            let output = ended.output.gained();
+            assert!(rt; output.is_empty() || output == HEADER || output == &ONE_ROW[..29]);
+            if ended.status == Status::Outside {
+                assert_eq!(rt;
+                    ended.line.gained(),
+                    b"read fault\n".as_slice(),
+                    "read {call}"
+                );
+            } else {
+                assert_eq!(rt; ended.status, Status::Refused, "read {call}");
+                assert_eq!(rt; ended.line.gained(), line, "read {call}");
+            }
+
+            let ended = run_on(rt.alloc(), words, input, &[1; 80], &[], &[call]).expect(
+                &rt, "memory",
+            );
+            assert!(rt;
+                ONE_ROW[..29].starts_with(ended.output.gained()),
+                "write {call}"
+            );
+            if ended.status == Status::Outside {
+                assert_eq!(rt;
+                    ended.line.gained(),
+                    b"write fault\n".as_slice(),
+                    "write {call}"
+                );
+                assert_eq!(rt; ended.output.gained().len() as u64, call, "write {call}");
+            } else {
+                assert_eq!(rt; ended.status, Status::Refused, "write {call}");
+                assert_eq!(rt; ended.line.gained(), line, "write {call}");
+            }
+        }
     }
 }
