@@ -1,15 +1,16 @@
 -- What a fault of a copy says of the run that met it.
-use Rattle.std.proofs.Common.{◌≡◌, ℕ, List, [], Option, None, Some, Result, Ok, Err, IsOkAnd, refl, ap, inl}
+use Rattle.std.proofs.Common.{◌≡◌, ◌⊎◌, ℕ, Bool, List, Option, Result, Ok, Err, IsOkAnd, refl, ap, inl, inr}
 use Rattle.std.specs.Prelude.{IsOk}
 use Rattle.std.specs.Result.{IsOkUnless}
-use Rattle.std.specs.Io.KnownBytes.{Keeps, Consumes}
-use Rattle.pgw_wire.specs.Outside.{Took}
+use Rattle.pgw_wire.specs.Outside.{Took, Wrote}
+use Rattle.pgw_wire.proofs.Taking.{took_none}
+use Rattle.pgw_wire.proofs.Adding.{wrote_none}
 use Rattle.pgw_tree.specs.declared.fault.CopyFault.{CopyFault}
-use Rattle.pgw_tree.specs.declared.fault.CopyFault.TheVariants.{NoMemory}
+use Rattle.pgw_tree.specs.declared.fault.CopyFault.TheVariants.{BadHeader, BadFlags, Truncated, BadFieldCount, UnexpectedEndOfRow, BadValue, TooLong, RowLimit, ReadFault, WriteFault, NoMemory}
 use Rattle.pgw_tree.specs.Stream.{Limits}
 use Rattle.pgw_tree.specs.Tree.{Shape}
 use Rattle.pgw_tree.specs.Causes.{fault_says}
-use Rattle.pgcopy.specs.declared.report.Status.TheVariants.{NoMemory as status_no_memory}
+use Rattle.pgcopy.specs.declared.report.Status.TheVariants.{Refused as status_refused, NoMemory as status_no_memory}
 use Rattle.pgcopy.specs.Report.{fault_status}
 
 -- A value has what every value has.
@@ -26,13 +27,19 @@ pub status_at_fault : {X : Type 0} (r : Result X CopyFault) (fault : CopyFault) 
 status_at_fault r fault is h = ap fault_status (rw is at h)
 
 -- Where nothing was taken and nothing written, memory may be what was missing.
-pub no_memory_at_first : (limits : Limits) (columns : List Shape) (left gained : Option (List ℕ)) → Took left left (fault_says limits columns NoMemory gained gained)
-no_memory_at_first limits columns left gained = record { taken = []; consumed = none_taken left; has = inl (tt, kept gained) }
-  where
-    none_taken : (left : Option (List ℕ)) → Consumes left left []
-    none_taken None = tt
-    none_taken (Some bytes) = refl
+pub no_memory_at_first : (limits : Limits) (columns : List Shape) (left gained : Option (List ℕ)) (settled : Option Bool) → Took left left (fault_says limits columns NoMemory (Wrote gained gained settled settled))
+no_memory_at_first limits columns left gained settled = took_none (inl (refl, wrote_none gained settled))
 
-    kept : (gained : Option (List ℕ)) → Keeps gained gained
-    kept None = tt
-    kept (Some bytes) = refl
+-- A fault that is not the outside's refuses the stream, or memory was missing.
+pub refused_at_fault : {F W : Type 0} (fault : CopyFault) → (fault ≡ ReadFault → F) → (fault ≡ WriteFault → W) → (F → ⊥) → (W → ⊥) → (fault_status fault ≡ status_refused) ⊎ (fault_status fault ≡ status_no_memory)
+refused_at_fault BadHeader read write reads writes = inl refl
+refused_at_fault (BadFlags flags) read write reads writes = inl refl
+refused_at_fault Truncated read write reads writes = inl refl
+refused_at_fault (BadFieldCount count) read write reads writes = inl refl
+refused_at_fault (UnexpectedEndOfRow row) read write reads writes = inl refl
+refused_at_fault (BadValue row column kind) read write reads writes = inl refl
+refused_at_fault (TooLong row column) read write reads writes = inl refl
+refused_at_fault RowLimit read write reads writes = inl refl
+refused_at_fault ReadFault read write reads writes = absurd (reads (read refl))
+refused_at_fault WriteFault read write reads writes = absurd (writes (write refl))
+refused_at_fault NoMemory read write reads writes = inr refl

@@ -1,6 +1,6 @@
 ghost use Rattle.std.specs.Prelude.{◌≡◌, ◌≢◌, ◌≤◌, ◌↔◌, ◌⊎◌, ⊤, ℕ, List, true, option_map, IfOk, IfErr, IsErr, IsOkAnd};
 ghost use Rattle.std.specs.Io.KnownBytes.{Appends, IsAtEnd};
-ghost use Rattle.pgw_wire.specs.Outside.{HasFailed, Took, HasFront, Gains, SettledAfter};
+ghost use Rattle.pgw_wire.specs.Outside.{HasFailed, Took, HasFront, HasNoFront, Gains, Wrote};
 ghost use Rattle.pgw_tree.specs.Tree.{Value};
 ghost use Rattle.pgw_tree.specs.Canonical.{canonical_stream};
 ghost use Rattle.pgw_tree.specs.Causes.{fault_says};
@@ -36,12 +36,11 @@ fn execute<S: Source, K: Sink>(
         → Appends (K.gained sink.old) (K.gained sink.new) (canonical_stream plan.columns rows))) }
     ensures settled { status_of result ≡ Status.Copied
         → K.settled sink.new ≡ option_map (λ _. true) (K.settled sink.old) }
-    ensures unsettled { status_of result ≢ Status.Copied
-        → SettledAfter (K.settled sink.old) (K.settled sink.new) }
     ensures fault { status_of result ≢ Status.Copied → status_of result ≢ Status.Words
         → IsOkAnd (plan_of words.now) (λ plan. (fault : CopyFault) × (result ≡ Outcome.Fault fault)
         × Took (S.left source.old) (S.left source.new)
-        (fault_says plan.limits plan.columns fault (K.gained sink.old) (K.gained sink.new))
+        (fault_says plan.limits plan.columns fault
+        (Wrote (K.gained sink.old) (K.gained sink.new) (K.settled sink.old) (K.settled sink.new)))
         × (fault ≡ CopyFault.Truncated → IsAtEnd (S.left source.new))
         × (fault ≡ CopyFault.ReadFault → HasFailed (S.fault_count source.old) (S.fault_count source.new))
         × (fault ≡ CopyFault.WriteFault → HasFailed (K.fault_count sink.old) (K.fault_count sink.new))) }
@@ -52,6 +51,11 @@ fn execute<S: Source, K: Sink>(
         → ¬ HasFailed (S.fault_count source.old) (S.fault_count source.new)
         → ¬ HasFailed (K.fault_count sink.old) (K.fault_count sink.new)
         → (status_of result ≡ Status.Copied) ⊎ (status_of result ≡ Status.NoMemory)) }
+    ensures refused { IfOk (plan_of words.now) (λ plan.
+        HasNoFront (S.left source.old) (IsValidStream plan.limits plan.columns)
+        → ¬ HasFailed (S.fault_count source.old) (S.fault_count source.new)
+        → ¬ HasFailed (K.fault_count sink.old) (K.fault_count sink.new)
+        → (status_of result ≡ Status.Refused) ⊎ (status_of result ≡ Status.NoMemory)) }
 
     ensures taken { Took (S.left source.old) (S.left source.new) (λ _. ⊤) }
     ensures gained { Gains (K.gained sink.old) (K.gained sink.new) }
@@ -129,23 +133,28 @@ pub fn run<S: Source, K: Sink, N: Sink>(
         → IsOkAnd (plan_of words.now) (λ plan. (fault : CopyFault) × (result ≡ fault_status fault)
         × GainsUnlessFailed N.gained N.fault_count notes.old notes.new (line_of (Outcome.Fault fault))
         × Took (S.left source.old) (S.left source.new)
-        (fault_says plan.limits plan.columns fault (K.gained sink.old) (K.gained sink.new))
+        (fault_says plan.limits plan.columns fault
+        (Wrote (K.gained sink.old) (K.gained sink.new) (K.settled sink.old) (K.settled sink.new)))
         × (fault ≡ CopyFault.Truncated → IsAtEnd (S.left source.new))
         × (fault ≡ CopyFault.ReadFault → HasFailed (S.fault_count source.old) (S.fault_count source.new))
         × (fault ≡ CopyFault.WriteFault → HasFailed (K.fault_count sink.old) (K.fault_count sink.new))) }
     ensures known { result ≢ Status.UnknownType }
 
-    // A valid stream is copied, unless memory runs out or an object outside failed.
+    // A valid stream is copied, and what begins with none is refused, unless memory runs out or an object outside failed.
     ensures complete { IfOk (plan_of words.now) (λ plan.
         HasFront (S.left source.old) (IsValidStream plan.limits plan.columns)
         → ¬ HasFailed (S.fault_count source.old) (S.fault_count source.new)
         → ¬ HasFailed (K.fault_count sink.old) (K.fault_count sink.new)
         → (result ≡ Status.Copied) ⊎ (result ≡ Status.NoMemory)) }
+    ensures refused { IfOk (plan_of words.now) (λ plan.
+        HasNoFront (S.left source.old) (IsValidStream plan.limits plan.columns)
+        → ¬ HasFailed (S.fault_count source.old) (S.fault_count source.new)
+        → ¬ HasFailed (K.fault_count sink.old) (K.fault_count sink.new)
+        → (result ≡ Status.Refused) ⊎ (result ≡ Status.NoMemory)) }
 
     // What is left, whatever it answers.
     ensures taken { Took (S.left source.old) (S.left source.new) (λ _. ⊤) }
     ensures gained { Gains (K.gained sink.old) (K.gained sink.new) }
-    ensures unsettled { result ≢ Status.Copied → SettledAfter (K.settled sink.old) (K.settled sink.new) }
     ensures source_faults { S.fault_count source.old ≤ S.fault_count source.new }
     ensures source_origin { S.origin source.new ≡ S.origin source.old }
     ensures sink_faults { K.fault_count sink.old ≤ K.fault_count sink.new }

@@ -1,9 +1,10 @@
 -- The fields of a row, taken apart.
-use Rattle.std.proofs.Common.{◌≡◌, ℕ, ◌+◌, ◌<◌, ◌≤◌, ◌^◌, List, [], ◌∷◌, ◌++◌, length, None, Some, refl, sym, ap, ◌∙◌, arith, append_assoc, append-nil, length-append, subst}
+use Rattle.std.proofs.Common.{◌≡◌, ℕ, ◌+◌, ◌<◌, ◌≤◌, ◌^◌, List, [], ◌∷◌, ◌++◌, length, None, Some, refl, sym, ap, ◌∙◌, arith, append_assoc, append-nil, length-append, subst, inl, inr, ◌⊎◌}
+use Rattle.std.proofs.Math.Nat.{eq-or-lt_of_le}
 use Rattle.std.specs.Int.{to_be_bytes, w32}
 use Rattle.pgw_wire.specs.Cell.{Cell}
 use Rattle.pgw_copy.specs.Format.{IsField, AreFields}
-use Rattle.pgw_copy.specs.Reader.{IsCutField, AreCutFields}
+use Rattle.pgw_copy.specs.Reader.{IsCutField, AreCutFields, AreWholeFields}
 use Rattle.pgw_copy.proofs.Lists.{same_front, same_rest}
 use Rattle.pgw_copy.proofs.Numbers.{same_number_4}
 
@@ -38,10 +39,6 @@ said_piece : (word : ℕ) (cell : Cell) (behind : List ℕ) → word < 2 ^ 31 �
 said_piece word None behind short says = absurd (omega (arith, short, says.0))
 said_piece word (Some p) behind short says = (ap Some (sym says.2), ap length says.2 ∙ sym says.1)
 
-said_null : (word : ℕ) (cell : Cell) (behind : List ℕ) → 2 ^ 31 ≤ word → Says word cell behind → cell ≡ None
-said_null word None behind negative says = refl
-said_null word (Some p) behind negative says = absurd (omega (arith, negative, says.0))
-
 -- A field that begins with a length that isn't negative is that of a piece, which has as many bytes as it states.
 pub field_piece : (word : ℕ) (x behind front rest : List ℕ) (cell : Cell) → word < 2 ^ 31 → x ≡ to_be_bytes w32 word → IsField cell front → x ++ behind ≡ front ++ rest → (y : List ℕ) × (cell ≡ Some y) × (length y ≡ word) × (front ≡ x ++ y)
 field_piece word x behind front rest cell short is h e =
@@ -54,31 +51,10 @@ field_piece word x behind front rest cell short is h e =
       f.is ∙ ap (λ n. to_be_bytes w32 n ++ f.behind) (sym same) ∙ ap (λ l. l ++ f.behind) (sym is),
     )
 
--- A field that begins with a negative length is a null.
-pub field_null : (word : ℕ) (x behind front rest : List ℕ) (cell : Cell) → 2 ^ 31 ≤ word → word < 2 ^ 32 → x ≡ to_be_bytes w32 word → IsField cell front → x ++ behind ≡ front ++ rest → cell ≡ None
-field_null word x behind front rest cell negative fits is h e =
-    let f = length_first cell front h in
-    let same = same_length word x behind rest front (cell, f) fits is e in
-    said_null word cell f.behind negative (subst (λ (n : ℕ). Says n cell f.behind) (sym same) f.says)
-
--- Behind a length that isn't negative stand as many bytes as it states.
-pub piece_splits : (word : ℕ) (x behind front rest : List ℕ) → word < 2 ^ 31 → x ≡ to_be_bytes w32 word → (cell : Cell) × IsField cell front → x ++ behind ≡ front ++ rest → (y : List ℕ) × (length y ≡ word) × (front ≡ x ++ y)
-piece_splits word x behind front rest short is h e = let p = field_piece word x behind front rest h.0 short is h.1 e in (p.0, p.2, p.3)
-
 -- A length and a piece of that length are the piece's field.
 pub field_of_piece : (word : ℕ) (x y : List ℕ) → word < 2 ^ 31 → x ≡ to_be_bytes w32 word → length y ≡ word → IsField (Some y) (x ++ y)
 field_of_piece word x y short is long =
     (subst (λ (n : ℕ). n < 2 ^ 31) (sym long) short, ap (λ l. l ++ y) (is ∙ ap (to_be_bytes w32) (sym long)))
-
-pub piece_field : (word : ℕ) (x y : List ℕ) → word < 2 ^ 31 → x ≡ to_be_bytes w32 word → length y ≡ word → (cell : Cell) × IsField cell (x ++ y)
-piece_field word x y short is long = (Some y, field_of_piece word x y short is long)
-
-pub null_field : (word : ℕ) (x : List ℕ) → 2 ^ 31 ≤ word → word < 2 ^ 32 → x ≡ to_be_bytes w32 word → (cell : Cell) × IsField cell x
-null_field word x negative fits is = (None, (word, negative, fits, is))
-
--- the bytes are this many fields
-abbrev pub AreSomeFields : ℕ → List ℕ → Type 0
-AreSomeFields count bytes = (cells : List Cell) × (length cells ≡ count) × AreFields cells bytes
 
 pieces_once : (word : ℕ) (c c' : Cell) (b b' behind rest : List ℕ) → Says word c b → Says word c' b' → b ++ behind ≡ b' ++ rest → b ≡ b'
 pieces_once word None None b b' behind rest s s' e = s.1 ∙ sym s'.1
@@ -97,26 +73,6 @@ field_once c c' x x' behind rest h h' e =
     let behinds = same_rest (to_be_bytes w32 f.word) (to_be_bytes w32 f'.word) (f.behind ++ behind) (f'.behind ++ rest) refl whole' in
     let pieces = pieces_once f'.word c c' f.behind f'.behind behind rest (subst (λ (n : ℕ). Says n c f.behind) words f.says) f'.says behinds in
     f.is ∙ ap (λ n. to_be_bytes w32 n ++ f.behind) words ∙ ap (λ l. to_be_bytes w32 f'.word ++ l) pieces ∙ sym f'.is
-
--- one field more in front
-pub fields_more : (n k : ℕ) (x tail : List ℕ) → n ≡ k + 1 → (cell : Cell) × IsField cell x → AreSomeFields k tail → AreSomeFields n (x ++ tail)
-fields_more n k x tail more field fields =
-    (field.0 ∷ fields.0, omega (arith, more, fields.1), (x, tail, field.1, fields.2, refl))
-
-pub no_fields : (n : ℕ) → n ≡ 0 → AreSomeFields n []
-no_fields n none = ([], sym none, refl)
-
--- Behind a field in front of several stand the others.
-pub fields_split : (n k : ℕ) (x behind front rest : List ℕ) → n ≡ k + 1 → (cell : Cell) × IsField cell x → AreSomeFields n front → x ++ behind ≡ front ++ rest → (y : List ℕ) × AreSomeFields k y × (front ≡ x ++ y)
-fields_split n k x behind front rest more field ([], many, each) e = absurd (omega (arith, more, many))
-fields_split n k x behind front rest more field (c ∷ cs, many, each) e =
-    let same = field_once field.0 c x each.0 behind (each.1 ++ rest) field.1 each.2 (e ∙ ap (λ l. l ++ rest) each.4 ∙ append_assoc each.0 each.1 rest) in
-    (each.1, (cs, omega (arith, more, many), each.3), each.4 ∙ ap (λ l. l ++ each.1) (sym same))
-
--- Several fields begin with one.
-pub fields_begin : (n k : ℕ) (front : List ℕ) → n ≡ k + 1 → AreSomeFields n front → (x : List ℕ) × (y : List ℕ) × ((cell : Cell) × IsField cell x) × (front ≡ x ++ y)
-fields_begin n k front more ([], many, each) = absurd (omega (arith, more, many))
-fields_begin n k front more (c ∷ cs, many, each) = (each.0, each.1, (c, each.2), each.4)
 
 -- A field has the four bytes of its length.
 pub short_field : (bytes : List ℕ) → length bytes < 4 → IsCutField bytes
@@ -149,3 +105,17 @@ pub fields_append : (cells : List Cell) (c : Cell) (x y : List ℕ) → AreField
 fields_append [] c x y each field = (y, [], field, refl, ap (λ l. l ++ y) each ∙ sym (append-nil y))
 fields_append (d ∷ ds) c x y each field =
     (each.0, each.1 ++ y, each.2, fields_append ds c each.1 y each.3 field, ap (λ l. l ++ y) each.4 ∙ append_assoc each.0 each.1 y)
+
+-- Fields, and one more, are all of so many, or fewer.
+pub whole_fields : (count : ℕ) (cells : List Cell) (c : Cell) (x y : List ℕ) → length cells < count → AreFields cells x → IsField c y → AreCutFields count (x ++ y) ⊎ AreWholeFields count (x ++ y)
+whole_fields count cells c x y more each field = by_number (eq-or-lt_of_le within)
+  where
+    all : AreFields (cells ++ (c ∷ [])) (x ++ y)
+    all = fields_append cells c x y each field
+
+    within : length (cells ++ (c ∷ [])) ≤ count
+    within = omega (arith, more, length-append cells (c ∷ []))
+
+    by_number : (length (cells ++ (c ∷ [])) ≡ count) ⊎ (length (cells ++ (c ∷ [])) < count) → AreCutFields count (x ++ y) ⊎ AreWholeFields count (x ++ y)
+    by_number (inl many) = inr (cells ++ (c ∷ []), many, all)
+    by_number (inr fewer) = inl (subst (λ (l : List ℕ). AreCutFields count l) (append-nil (x ++ y)) (cut_fields count (cells ++ (c ∷ [])) (x ++ y) [] fewer all (short_field [] (omega arith))))

@@ -111,7 +111,7 @@ short_header (BadFlags flags) bytes h = absurd h
 short_header Truncated bytes h = inl h
 short_header (BadFieldCount count) bytes h = h
 short_header ReadFault bytes h = inl h
-short_header NoMemory bytes h = tt
+short_header NoMemory bytes h = h
 
 pub refused_header : (e : CopyReadError) (bytes : List ℕ) → fixed_fault e bytes → header_fault e bytes
 refused_header BadHeader bytes h = h
@@ -119,7 +119,7 @@ refused_header (BadFlags flags) bytes h = h
 refused_header Truncated bytes h = absurd h
 refused_header (BadFieldCount count) bytes h = h
 refused_header ReadFault bytes h = absurd h
-refused_header NoMemory bytes h = tt
+refused_header NoMemory bytes h = h
 
 pub short_extension : (e : CopyReadError) (x y : List ℕ) (extension : ℕ) → IsFixedHeader x extension → cut_fault (IsShort extension) e y → header_fault e (x ++ y)
 short_extension BadHeader x y extension f h = absurd h
@@ -127,4 +127,4 @@ short_extension (BadFlags flags) x y extension f h = absurd h
 short_extension Truncated x y extension f h = inr (x, y, extension, f, refl, h)
 short_extension (BadFieldCount count) x y extension f h = h
 short_extension ReadFault x y extension f h = inr (x, y, extension, f, refl, h)
-short_extension NoMemory x y extension f h = tt
+short_extension NoMemory x y extension f h = h

@@ -1,5 +1,5 @@
 -- How the answers of calls that read a part of a stream make that of the call that makes them.
-use Rattle.std.proofs.Common.{◌≡◌, ℕ, ◌+◌, ◌<◌, ◌≤◌, ◌^◌, List, ◌++◌, length, length-append, append_assoc, arith, subst, refl, inl, inr, Option, Some, Result, Ok, Err, sym, ap, ◌∙◌}
+use Rattle.std.proofs.Common.{◌≡◌, ℕ, ◌+◌, ◌<◌, ◌≤◌, ◌^◌, List, ◌++◌, length, length-append, append_assoc, arith, subst, refl, inl, inr, ◌⊎◌, Option, Some, Result, Ok, Err, sym, ap, ◌∙◌}
 use Rattle.std.specs.Prelude.{◌≢◌}
 use Rattle.std.specs.Result.{IsErrAnd, IfOk, IfErr}
 use Rattle.std.proofs.lemmas.Result.{err_from_is_err_and}
@@ -8,12 +8,14 @@ use Rattle.pgw_wire.specs.Outside.{Took}
 use Rattle.pgw_wire.proofs.Taking.{took_then, took_weaker}
 use Rattle.pgw_copy.specs.declared.fault.CopyReadError.{CopyReadError}
 use Rattle.pgw_copy.specs.declared.fault.CopyReadError.TheVariants.{BadHeader, BadFlags, Truncated, BadFieldCount, ReadFault, NoMemory}
-use Rattle.pgw_copy.specs.Reader.{Takes, cut_fault, IsShort, count_fault, row_fault, AreCutFields}
+use Rattle.pgw_copy.specs.Reader.{Takes, cut_fault, kept_fault, IsShort, HasSize, count_fault, row_fault, AreCutFields, AreWholeFields}
 use Rattle.pgw_copy.specs.Format.{AreFields, IsRow, IsCutRow, IsCount}
 use Rattle.pgw_wire.specs.Cell.{Cell}
 use Rattle.std.specs.Int.{to_be_bytes, w16}
 use Rattle.pgw_copy.proofs.Lists.{same_front, same_rest}
 use Rattle.pgw_copy.proofs.Numbers.{same_number_2}
+use Rattle.std.proofs.Math.Logic.{⊎_swap}
+use Rattle.std.proofs.Math.Nat.{eq-or-lt_of_le}
 
 along : {Z : Type 0} (R : Z → Type 0) {u v : Z} → u ≡ v → R u → R v
 along R e p = rw (← e) p
@@ -82,8 +84,8 @@ takes_refused {X = X} {a = a} {b = b} {F = F} {e = e} P Fault is t end failed =
     along (λ s. Takes {X = X} a b F s P Fault) (sym is) (takes_error e P Fault t end failed)
 
 -- want of memory, behind what was taken
-pub takes_no_memory : {X : Type 0} {a b : Option (List ℕ)} {F : Type 0} {P0 : List ℕ → Type 0} {r : Result X CopyReadError} (P : X → List ℕ → Type 0) (Fault : CopyReadError → List ℕ → Type 0) → r ≡ Err NoMemory → Took a b P0 → ((bytes : List ℕ) → Fault NoMemory bytes) → Takes a b F r P Fault
-takes_no_memory P Fault is t free = takes_refused P Fault is (took_weaker t (λ bytes _. free bytes)) (λ h. absurd (cc)) (λ h. absurd (cc))
+pub takes_no_memory : {X : Type 0} {a b : Option (List ℕ)} {F : Type 0} {P0 : List ℕ → Type 0} {r : Result X CopyReadError} (P : X → List ℕ → Type 0) (Fault : CopyReadError → List ℕ → Type 0) → r ≡ Err NoMemory → Took a b P0 → ((bytes : List ℕ) → P0 bytes → Fault NoMemory bytes) → Takes a b F r P Fault
+takes_no_memory P Fault is t says = takes_refused P Fault is (took_weaker t says) (λ h. absurd (cc)) (λ h. absurd (cc))
 
 -- Where a cut of what was read last is a cut of all, so it is at each error.
 pub cut_at : (Cut All : List ℕ → Type 0) (e : CopyReadError) (last all : List ℕ) → (Cut last → All all) → cut_fault Cut e last → cut_fault All e all
@@ -92,12 +94,39 @@ cut_at Cut All (BadFlags flags) last all cut h = h
 cut_at Cut All Truncated last all cut h = cut h
 cut_at Cut All (BadFieldCount count) last all cut h = h
 cut_at Cut All ReadFault last all cut h = cut h
-cut_at Cut All NoMemory last all cut h = tt
+cut_at Cut All NoMemory last all cut h = h
+
+-- the same at the errors of a call that keeps what it takes, by way of one that does not
+pub kept_of_cut : (Cut All Whole : List ℕ → Type 0) (e : CopyReadError) (last all : List ℕ) → (Cut last → All all) → cut_fault Cut e last → kept_fault All Whole e all
+kept_of_cut Cut All Whole BadHeader last all cut h = h
+kept_of_cut Cut All Whole (BadFlags flags) last all cut h = h
+kept_of_cut Cut All Whole Truncated last all cut h = cut h
+kept_of_cut Cut All Whole (BadFieldCount count) last all cut h = h
+kept_of_cut Cut All Whole ReadFault last all cut h = cut h
+kept_of_cut Cut All Whole NoMemory last all cut h = absurd h
+
+-- and by way of one that does, whose whole may be a part of all
+pub kept_at : (Cut Whole All AllWhole : List ℕ → Type 0) (e : CopyReadError) (last all : List ℕ) → (Cut last → All all) → (Whole last → All all ⊎ AllWhole all) → kept_fault Cut Whole e last → kept_fault All AllWhole e all
+kept_at Cut Whole All AllWhole BadHeader last all cut whole h = h
+kept_at Cut Whole All AllWhole (BadFlags flags) last all cut whole h = h
+kept_at Cut Whole All AllWhole Truncated last all cut whole h = cut h
+kept_at Cut Whole All AllWhole (BadFieldCount count) last all cut whole h = h
+kept_at Cut Whole All AllWhole ReadFault last all cut whole h = cut h
+kept_at Cut Whole All AllWhole NoMemory last all cut whole (inl c) = inl (cut c)
+kept_at Cut Whole All AllWhole NoMemory last all cut whole (inr w) = whole w
 
 -- Bytes that are short of what was asked last are short of all that was asked.
 pub short_later : (e : CopyReadError) (first second : List ℕ) (size all : ℕ) → length first + size ≤ all → cut_fault (IsShort size) e second → cut_fault (IsShort all) e (first ++ second)
 short_later e first second size all within h =
     cut_at (IsShort size) (IsShort all) e second (first ++ second) (λ short. omega (arith, within, short, length-append first second)) h
+
+pub short_kept : (e : CopyReadError) (first second : List ℕ) (size all : ℕ) → length first + size ≤ all → cut_fault (IsShort size) e second → kept_fault (IsShort all) (HasSize all) e (first ++ second)
+short_kept e first second size all within h =
+    kept_of_cut (IsShort size) (IsShort all) (HasSize all) e second (first ++ second) (λ short. omega (arith, within, short, length-append first second)) h
+
+-- Bytes that are no more than were asked for are short of that, or all of it.
+pub short_or_whole : (size : ℕ) (bytes : List ℕ) → length bytes ≤ size → IsShort size bytes ⊎ HasSize size bytes
+short_or_whole size bytes within = ⊎_swap (eq-or-lt_of_le within)
 
 -- What was taken is tested.
 pub takes_tested : {X : Type 0} {a b : Option (List ℕ)} {F : Type 0} {P1 : List ℕ → Type 0} (r : Result X CopyReadError) (P : X → List ℕ → Type 0) (Fault : CopyReadError → List ℕ → Type 0)
@@ -112,7 +141,7 @@ short_count (BadFlags flags) bytes h = h
 short_count Truncated bytes h = h
 short_count (BadFieldCount count) bytes h = absurd h
 short_count ReadFault bytes h = h
-short_count NoMemory bytes h = tt
+short_count NoMemory bytes h = h
 
 pub err_both : {X : Type 0} (r : Result X CopyReadError) (P Q : CopyReadError → Type 0) → IfErr r P → IfErr r Q → IfErr r (λ e. P e × Q e)
 err_both (Ok x) P Q p q = tt
@@ -125,7 +154,7 @@ count_of_row (BadFlags flags) bytes h = h
 count_of_row Truncated bytes h = inl h
 count_of_row (BadFieldCount count) bytes h = h
 count_of_row ReadFault bytes h = inl h
-count_of_row NoMemory bytes h = tt
+count_of_row NoMemory bytes h = absurd h
 
 -- A count, and fields that end too early, are a row that does.
 pub cut_row : (n : ℕ) (x y : List ℕ) → IsCount (Some n) x → AreCutFields n y → IsCutRow (x ++ y)
@@ -144,14 +173,6 @@ cut_row n x y count cut =
           cut cells h.fields behind (sym many) h.each (same_rest (to_be_bytes w16 n) b y (h.fields ++ behind) refl whole),
     )
 
-pub cut_of_row : (n : ℕ) (e : CopyReadError) (x y : List ℕ) → IsCount (Some n) x → cut_fault (AreCutFields n) e y → row_fault e (x ++ y)
-cut_of_row n BadHeader x y count h = h
-cut_of_row n (BadFlags flags) x y count h = h
-cut_of_row n Truncated x y count h = cut_row n x y count h
-cut_of_row n (BadFieldCount c) x y count h = absurd h
-cut_of_row n ReadFault x y count h = cut_row n x y count h
-cut_of_row n NoMemory x y count h = tt
-
 -- A count and as many fields are a row.
 pub row_of : (n : ℕ) (cells : List Cell) (x y : List ℕ) → IsCount (Some n) x → length cells ≡ n → AreFields cells y → IsRow cells (x ++ y)
 row_of n cells x y count many each = record {
@@ -160,3 +181,13 @@ row_of n cells x y count many each = record {
   each = each;
   is = ap (λ l. l ++ y) (count.1 ∙ ap (to_be_bytes w16) (sym many));
 }
+
+-- what an error of the fields behind a count says of the row
+pub cut_of_row : (n : ℕ) (e : CopyReadError) (x y : List ℕ) → IsCount (Some n) x → kept_fault (AreCutFields n) (AreWholeFields n) e y → row_fault e (x ++ y)
+cut_of_row n BadHeader x y count h = h
+cut_of_row n (BadFlags flags) x y count h = h
+cut_of_row n Truncated x y count h = cut_row n x y count h
+cut_of_row n (BadFieldCount c) x y count h = absurd h
+cut_of_row n ReadFault x y count h = cut_row n x y count h
+cut_of_row n NoMemory x y count (inl cut) = inl (cut_row n x y count cut)
+cut_of_row n NoMemory x y count (inr whole) = inr (whole.0, row_of n whole.0 x y count whole.1 whole.2)

@@ -1,5 +1,5 @@
 -- What a call that reads a part of a stream takes, and what each of its errors says of the bytes that were taken.
-use Rattle.std.specs.Prelude.{◌≡◌, ◌⊎◌, ⊤, ℕ, ℤ, ◌<◌, ◌≤◌, ◌-◌, ◌^◌, List, ◌++◌, length, Option, None, Some, Result, Ok, Err}
+use Rattle.std.specs.Prelude.{◌≡◌, ◌⊎◌, ℕ, ℤ, ◌<◌, ◌≤◌, ◌-◌, ◌^◌, List, ◌++◌, length, Option, None, Some, Result, Ok, Err}
 use Rattle.std.specs.Int.{to_be_bytes, cast_unsigned, w16, w32}
 use Rattle.std.specs.Io.KnownBytes.{IsAtEnd}
 use Rattle.pgw_wire.specs.Cell.{Cell}
@@ -16,18 +16,30 @@ pub record Takes {X : Type 0} (before now : Option (List ℕ)) (failed : Type 0)
   pub at_end : result ≡ Err Truncated → IsAtEnd now
   pub has_failed : result ≡ Err ReadFault → failed
 
--- Where a call stops at the end or at a fault of the source, what was taken has Cut. It answers no other error but want
--- of memory.
+-- Where a call stops at the end or at a fault of the source, what was taken has Cut. It answers no other error.
 abbrev pub cut_fault : (List ℕ → Type 0) → CopyReadError → List ℕ → Type 0
 cut_fault Cut BadHeader bytes = ⊥
 cut_fault Cut (BadFlags flags) bytes = ⊥
 cut_fault Cut Truncated bytes = Cut bytes
 cut_fault Cut (BadFieldCount count) bytes = ⊥
 cut_fault Cut ReadFault bytes = Cut bytes
-cut_fault Cut NoMemory bytes = ⊤
+cut_fault Cut NoMemory bytes = ⊥
+
+-- The same of a call that keeps what it takes: where memory is refused, what was taken has Cut too, or it is all that the
+-- call takes, which has Whole.
+abbrev pub kept_fault : (List ℕ → Type 0) → (List ℕ → Type 0) → CopyReadError → List ℕ → Type 0
+kept_fault Cut Whole BadHeader bytes = ⊥
+kept_fault Cut Whole (BadFlags flags) bytes = ⊥
+kept_fault Cut Whole Truncated bytes = Cut bytes
+kept_fault Cut Whole (BadFieldCount count) bytes = ⊥
+kept_fault Cut Whole ReadFault bytes = Cut bytes
+kept_fault Cut Whole NoMemory bytes = Cut bytes ⊎ Whole bytes
 
 abbrev pub IsShort : ℕ → List ℕ → Type 0
 IsShort size bytes = length bytes < size
+
+abbrev pub HasSize : ℕ → List ℕ → Type 0
+HasSize size bytes = length bytes ≡ size
 
 -- what every stream begins with, flags whose high half is 0, and a negative length of the extension
 pub record HasNegativeExtension (bytes : List ℕ) : Type 0 where
@@ -56,7 +68,7 @@ header_fault (BadFlags flags) bytes = HasHighFlags flags bytes
 header_fault Truncated bytes = IsCutHeader bytes
 header_fault (BadFieldCount count) bytes = ⊥
 header_fault ReadFault bytes = IsCutHeader bytes
-header_fault NoMemory bytes = ⊤
+header_fault NoMemory bytes = ⊥
 
 -- what an error says of the 19 bytes that could begin a header
 abbrev pub fixed_fault : CopyReadError → List ℕ → Type 0
@@ -79,7 +91,17 @@ count_fault (BadFlags flags) bytes = ⊥
 count_fault Truncated bytes = IsShort 2 bytes
 count_fault (BadFieldCount count) bytes = IsBadCount count bytes
 count_fault ReadFault bytes = IsShort 2 bytes
-count_fault NoMemory bytes = ⊤
+count_fault NoMemory bytes = ⊥
+
+abbrev pub IsWholeField : List ℕ → Type 0
+IsWholeField bytes = (cell : Cell) × IsField cell bytes
+
+-- the bytes are this many fields
+abbrev pub AreWholeFields : ℕ → List ℕ → Type 0
+AreWholeFields count bytes = (cells : List Cell) × (length cells ≡ count) × AreFields cells bytes
+
+abbrev pub IsWholeRow : List ℕ → Type 0
+IsWholeRow bytes = (cells : List Cell) × IsRow cells bytes
 
 -- bytes that end before a field is whole
 abbrev pub IsCutField : List ℕ → Type 0
@@ -100,4 +122,4 @@ row_fault (BadFlags flags) bytes = ⊥
 row_fault Truncated bytes = IsCutRow bytes
 row_fault (BadFieldCount count) bytes = IsBadCount count bytes
 row_fault ReadFault bytes = IsCutRow bytes
-row_fault NoMemory bytes = ⊤
+row_fault NoMemory bytes = IsCutRow bytes ⊎ IsWholeRow bytes

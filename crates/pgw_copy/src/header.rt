@@ -18,7 +18,6 @@ const NEGATIVE_LENGTH: u32 = 1 << 31;
 
 /// How many bytes of extension follow these first 19 bytes of a header.
 fn extension_of(fixed: &[u8; 19]) -> Result<usize, CopyReadError>
-    ensures memory { IfErr result (λ e. e ≢ CopyReadError.NoMemory) }
     ensures ok { IfOk result (λ extension. IsFixedHeader fixed.now extension) }
     ensures err { IfErr result (λ e. fixed_fault e fixed.now) }
 {
@@ -38,7 +37,6 @@ fn extension_of(fixed: &[u8; 19]) -> Result<usize, CopyReadError>
 
 /// Takes the header of a stream.
 pub(crate) fn take_header<S: Source>(source: &mut S) -> Result<(), CopyReadError>
-    ensures memory { IfErr result (λ e. e ≢ CopyReadError.NoMemory) }
     ensures takes { Takes (S.left source.old) (S.left source.new)
         (HasFailed (S.fault_count source.old) (S.fault_count source.new))
         result (λ _ taken. IsHeader taken) header_fault }

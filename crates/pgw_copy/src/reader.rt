@@ -5,7 +5,7 @@ ghost use Rattle.std.specs.Int.{to_be_bytes, w16};
 ghost use Rattle.pgw_wire.specs.Outside.{HasFailed, Took};
 ghost use Rattle.pgw_copy.specs.contracts.reader.CopyReader.{the_row};
 ghost use Rattle.pgw_copy.specs.Format.{IsHeader, IsCount, AreFields};
-ghost use Rattle.pgw_copy.specs.Reader.{Takes, cut_fault, header_fault, count_fault, row_fault, AreCutFields, IsRowOrEnd};
+ghost use Rattle.pgw_copy.specs.Reader.{Takes, kept_fault, header_fault, count_fault, row_fault, AreCutFields, AreWholeFields, IsRowOrEnd};
 ghost use Rattle.pgw_copy.specs.State.{pending, is_over, IsReady, IsEnded, cells_of};
 
 use crate::header::take_header;
@@ -23,7 +23,6 @@ const NEGATIVE_COUNT: u16 = 1 << 15;
 
 /// What a count says, which it is handed as it stands: how many fields a row has, or None where -1 ends the stream.
 fn count_of(count: u16) -> Result<Option<u16>, CopyReadError>
-    ensures memory { IfErr result (λ e. e ≢ CopyReadError.NoMemory) }
     ensures ok { IfOk result (λ c. IsCount c (to_be_bytes w16 count)) }
     ensures err { IfErr result (λ e. count_fault e (to_be_bytes w16 count)) }
     ensures known { IfErr result (λ e. (e ≢ CopyReadError.Truncated) × (e ≢ CopyReadError.ReadFault)) }
@@ -39,7 +38,6 @@ fn count_of(count: u16) -> Result<Option<u16>, CopyReadError>
 
 /// Takes the count in front of a row, or None at the count -1, which ends the stream.
 fn take_count<S: Source>(source: &mut S) -> Result<Option<u16>, CopyReadError>
-    ensures memory { IfErr result (λ e. e ≢ CopyReadError.NoMemory) }
     ensures takes { Takes (S.left source.old) (S.left source.new)
         (HasFailed (S.fault_count source.old) (S.fault_count source.new))
         result IsCount count_fault }
@@ -52,14 +50,24 @@ fn take_count<S: Source>(source: &mut S) -> Result<Option<u16>, CopyReadError>
     count_of(count)
 }
 
+/// Where a reader stands in its stream.
+#[derive(Clone, Copy)]
+enum State {
+    /// In front of a row or of the end.
+    Ready,
+    /// Behind the count of a row, in front of this many fields.
+    Pending(u16),
+    /// Behind the end, or behind an error.
+    Over,
+}
+
 /// Reads a stream row by row. It takes exactly the bytes that its calls name, and no byte behind them.
 ///
 /// It is over behind the end of the stream and behind every error, and must not be asked for more then.
 #[derive(Drop)]
 pub struct CopyReader {
     row: RowBuffer,
-    pending: Option<u16>,
-    over: bool,
+    state: State,
 }
 
 impl CopyReader {
@@ -72,7 +80,6 @@ impl CopyReader {
     /// | `Truncated` | all that was left: fewer than 19 bytes, or the first 19 of a header and less than its extension |
     /// | `ReadFault` | such bytes as for `Truncated`; the source failed behind them |
     pub fn start<S: Source>(alloc: Global, source: &mut S) -> Result<CopyReader, CopyReadError>
-        ensures memory { IfErr result (λ e. e ≢ CopyReadError.NoMemory) }
         ensures takes { Takes (S.left source.old) (S.left source.new)
             (HasFailed (S.fault_count source.old) (S.fault_count source.new))
             result (λ _ taken. IsHeader taken) header_fault }
@@ -83,8 +90,7 @@ impl CopyReader {
         take_header(source)?;
         Ok(CopyReader {
             row: RowBuffer::new(alloc),
-            pending: None,
-            over: false,
+            state: State::Ready,
         })
     }
 
@@ -97,7 +103,6 @@ impl CopyReader {
     /// | `ReadFault` | fewer than two bytes; the source failed behind them |
     pub fn next_count<S: Source>(&mut self, source: &mut S) -> Result<Option<u16>, CopyReadError>
         requires { IsReady self.old }
-        ensures memory { IfErr result (λ e. e ≢ CopyReadError.NoMemory) }
         ensures takes { Takes (S.left source.old) (S.left source.new)
             (HasFailed (S.fault_count source.old) (S.fault_count source.new))
             result IsCount count_fault }
@@ -106,10 +111,11 @@ impl CopyReader {
         ensures faults { S.fault_count source.old ≤ S.fault_count source.new }
         ensures origin { S.origin source.new ≡ S.origin source.old }
     {
-        self.over = true;
+        self.state = State::Over;
         let count = take_count(source)?;
-        self.over = count.is_none();
-        self.pending = count;
+        if let Some(fields) = count {
+            self.state = State::Pending(fields);
+        }
         Ok(count)
     }
 
@@ -119,23 +125,23 @@ impl CopyReader {
     /// |---|---|
     /// | `Truncated` | all that was left, which ends inside these fields |
     /// | `ReadFault` | the beginning of these fields; the source failed behind it |
-    /// | `NoMemory` | bytes that were left, of which no more is said; memory for a cell was asked for and refused |
+    /// | `NoMemory` | the beginning of these fields, or all of them; memory for a cell was asked for and refused |
     pub fn read_fields<S: Source>(&mut self, source: &mut S) -> Result<RawRow<'_>, CopyReadError>
-        requires pending { IsSome (pending self.old) }
-        requires reads { is_over self.old ≡ false }
+        requires { IsSome (pending self.old) }
         ensures takes { (count : ℕ) → pending self.old ≡ Some count → Takes (S.left source.old) (S.left source.new)
             (HasFailed (S.fault_count source.old) (S.fault_count source.new))
-            result (λ row taken. AreFields (cells_of row) taken) (cut_fault (AreCutFields count)) }
+            result (λ row taken. AreFields (cells_of row) taken)
+            (kept_fault (AreCutFields count) (AreWholeFields count)) }
         ensures many { (count : ℕ) → pending self.old ≡ Some count → IfOk result (λ row. length (cells_of row) ≡ count) }
         ensures* reader { sem 𝓛 (Rests the_row self.entry (λ new.
             MatchResult result (λ _. IsReady new) (λ _. IsEnded new))) }
         ensures faults { S.fault_count source.old ≤ S.fault_count source.new }
         ensures origin { S.origin source.new ≡ S.origin source.old }
     {
-        let count = self.pending.take().unwrap();
-        self.over = true;
+        let count = self.pending().unwrap();
+        self.state = State::Over;
         self.row.take_fields(count, source)?;
-        self.over = false;
+        self.state = State::Ready;
         Ok(RawRow { row: &self.row })
     }
 
@@ -164,13 +170,16 @@ impl CopyReader {
     pub fn pending(&self) -> Option<u16>
         ensures { result ≡ pending self.now }
     {
-        self.pending
+        match self.state {
+            State::Pending(count) => Some(count),
+            State::Ready | State::Over => None,
+        }
     }
 
     /// Whether it reads no more.
     pub fn is_over(&self) -> bool
         ensures { result ≡ is_over self.now }
     {
-        self.over
+        matches!(self.state, State::Over)
     }
 }

@@ -4,7 +4,7 @@ ghost use Rattle.pgw_wire.specs.Cell.{Cell, cell_of};
 ghost use Rattle.pgw_wire.specs.Outside.{HasFailed};
 ghost use Rattle.pgw_copy.specs.State.{cells_of};
 ghost use Rattle.pgw_copy.specs.Format.{IsField, AreFields};
-ghost use Rattle.pgw_copy.specs.Reader.{Takes, cut_fault, IsShort, IsCutField, AreCutFields};
+ghost use Rattle.pgw_copy.specs.Reader.{Takes, kept_fault, IsShort, HasSize, IsCutField, IsWholeField, AreCutFields, AreWholeFields};
 
 use crate::CopyReadError;
 use crate::source::{take_bytes, take_length};
@@ -90,7 +90,7 @@ impl RowBuffer {
             (HasFailed (S.fault_count source.old) (S.fault_count source.new))
             result
             (λ _ taken. (length taken ≡ len) × (self.new ≡ self.old ++ (Some taken ∷ [])))
-            (cut_fault (IsShort len)) }
+            (kept_fault (IsShort len) (HasSize len)) }
         ensures many { OnOk result (length self.new ≡ length self.old + 1) }
         ensures faults { S.fault_count source.old ≤ S.fault_count source.new }
         ensures origin { S.origin source.new ≡ S.origin source.old }
@@ -108,7 +108,7 @@ impl RowBuffer {
             (HasFailed (S.fault_count source.old) (S.fault_count source.new))
             result
             (λ _ taken. (cell : Cell) × IsField cell taken × (self.new ≡ self.old ++ (cell ∷ [])))
-            (cut_fault IsCutField) }
+            (kept_fault IsCutField IsWholeField) }
         ensures many { OnOk result (length self.new ≡ length self.old + 1) }
         ensures faults { S.fault_count source.old ≤ S.fault_count source.new }
         ensures origin { S.origin source.new ≡ S.origin source.old }
@@ -132,7 +132,7 @@ impl RowBuffer {
             (HasFailed (S.fault_count source.old) (S.fault_count source.new))
             result
             (λ _ taken. AreFields self.new taken)
-            (cut_fault (AreCutFields count)) }
+            (kept_fault (AreCutFields count) (AreWholeFields count)) }
         ensures many { OnOk result (length self.new ≡ count) }
         ensures faults { S.fault_count source.old ≤ S.fault_count source.new }
         ensures origin { S.origin source.new ≡ S.origin source.old }

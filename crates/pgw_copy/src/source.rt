@@ -1,7 +1,7 @@
 ghost use Rattle.std.specs.Prelude.{◌≡◌, ◌≢◌, IfErr, ◌+◌, ◌^◌, ◌<◌, ◌≤◌, ◌++◌, length, List, ℕ, OnOk};
 ghost use Rattle.std.specs.Int.{to_be_bytes, w32};
 ghost use Rattle.pgw_wire.specs.Outside.{HasFailed};
-ghost use Rattle.pgw_copy.specs.Reader.{Takes, cut_fault, IsShort};
+ghost use Rattle.pgw_copy.specs.Reader.{Takes, cut_fault, kept_fault, IsShort, HasSize};
 
 use crate::CopyReadError;
 use pgw_wire::{ByteBuffer, Source, take_u32};
@@ -11,7 +11,6 @@ const CHUNK: usize = 512;
 
 /// Fills the buffer with the next bytes of the source.
 pub(crate) fn fill<S: Source>(source: &mut S, buf: &mut [u8]) -> Result<(), CopyReadError>
-    ensures memory { IfErr result (λ e. e ≢ CopyReadError.NoMemory) }
     ensures takes { Takes (S.left source.old) (S.left source.new)
         (HasFailed (S.fault_count source.old) (S.fault_count source.new))
         result (λ _ taken. taken ≡ buf.new) (cut_fault (IsShort (length buf.old))) }
@@ -31,7 +30,6 @@ pub(crate) fn fill<S: Source>(source: &mut S, buf: &mut [u8]) -> Result<(), Copy
 
 /// Takes the next `len` bytes and keeps none of them.
 pub(crate) fn pass_over<S: Source>(source: &mut S, len: usize) -> Result<(), CopyReadError>
-    ensures memory { IfErr result (λ e. e ≢ CopyReadError.NoMemory) }
     ensures takes { Takes (S.left source.old) (S.left source.new)
         (HasFailed (S.fault_count source.old) (S.fault_count source.new))
         result (λ _ taken. length taken ≡ len) (cut_fault (IsShort len)) }
@@ -58,7 +56,8 @@ pub(crate) fn take_bytes<S: Source>(
     ensures takes { Takes (S.left source.old) (S.left source.new)
         (HasFailed (S.fault_count source.old) (S.fault_count source.new))
         result
-        (λ _ taken. (length taken ≡ len) × (bytes.new.bytes ≡ bytes.old.bytes ++ taken)) (cut_fault (IsShort len)) }
+        (λ _ taken. (length taken ≡ len) × (bytes.new.bytes ≡ bytes.old.bytes ++ taken))
+        (kept_fault (IsShort len) (HasSize len)) }
     ensures kept { length bytes.old.bytes ≤ length bytes.new.bytes }
     ensures grown { OnOk result (length bytes.new.bytes ≡ length bytes.old.bytes + len) }
     ensures faults { S.fault_count source.old ≤ S.fault_count source.new }

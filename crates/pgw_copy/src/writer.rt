@@ -3,10 +3,10 @@ ghost use Rattle.std.specs.Int.{to_be_bytes, w16};
 ghost use Rattle.std.specs.Io.KnownBytes.{Appends};
 ghost use Rattle.std.specs.Borrow.{Lends, sem};
 ghost use Rattle.pgw_wire.specs.contracts.buffer.ByteBuffer.{the_row as buffer_row};
-ghost use Rattle.pgw_wire.specs.Outside.{HasFailed, settled_after};
+ghost use Rattle.pgw_wire.specs.Outside.{HasFailed, Wrote};
 ghost use Rattle.pgw_copy.specs.contracts.writer.CopyWriter.{the_row};
 ghost use Rattle.pgw_copy.specs.Format.{canonical_header, trailer};
-ghost use Rattle.pgw_copy.specs.Writer.{GainsFront};
+ghost use Rattle.pgw_copy.specs.Writer.{WroteFront};
 
 use pgw_wire::{ByteBuffer, Failed, NoMemory, Sink};
 use std::alloc::Global;
@@ -40,10 +40,9 @@ impl Model for CopyWriter {
 
 /// Writes the whole piece, by as many writes as the sink wants.
 fn send<K: Sink>(sink: &mut K, piece: &[u8]) -> Result<(), Failed>
-    ensures ok { OnOk result (Appends (K.gained sink.old) (K.gained sink.new) piece.now) }
-    ensures err { OnErr result (GainsFront (K.gained sink.old) (K.gained sink.new) (K.settled sink.old) (K.settled sink.new) piece.now) }
+    ensures ok { OnOk result (Wrote (K.gained sink.old) (K.gained sink.new) (K.settled sink.old) (K.settled sink.new) piece.now) }
+    ensures err { OnErr result (WroteFront (K.gained sink.old) (K.gained sink.new) (K.settled sink.old) (K.settled sink.new) piece.now) }
     ensures failed { OnErr result (HasFailed (K.fault_count sink.old) (K.fault_count sink.new)) }
-    ensures settles { OnOk result (K.settled sink.new ≡ settled_after (length piece.now) (K.settled sink.old)) }
     ensures faults { K.fault_count sink.old ≤ K.fault_count sink.new }
     ensures origin { K.origin sink.new ≡ K.origin sink.old }
 {
@@ -68,10 +67,9 @@ impl CopyWriter {
     /// Writes the header, 19 bytes: the 11 of the magic, then four of flags and four of the extension's length, all 0.
     /// `Failed` where the sink failed.
     pub fn header<K: Sink>(&mut self, sink: &mut K) -> Result<(), Failed>
-        ensures ok { OnOk result (Appends (K.gained sink.old) (K.gained sink.new) canonical_header) }
-        ensures err { OnErr result (GainsFront (K.gained sink.old) (K.gained sink.new) (K.settled sink.old) (K.settled sink.new) canonical_header) }
+        ensures ok { OnOk result (Wrote (K.gained sink.old) (K.gained sink.new) (K.settled sink.old) (K.settled sink.new) canonical_header) }
+        ensures err { OnErr result (WroteFront (K.gained sink.old) (K.gained sink.new) (K.settled sink.old) (K.settled sink.new) canonical_header) }
         ensures failed { OnErr result (HasFailed (K.fault_count sink.old) (K.fault_count sink.new)) }
-        ensures settles { OnOk result (K.settled sink.new ≡ settled_after (length canonical_header) (K.settled sink.old)) }
         ensures faults { K.fault_count sink.old ≤ K.fault_count sink.new }
         ensures origin { K.origin sink.new ≡ K.origin sink.old }
         ensures buffer { self.new ≡ self.old }
@@ -103,10 +101,9 @@ impl CopyWriter {
 
     /// Writes the bytes of the buffer, which keeps them. `Failed` where the sink failed.
     pub fn send_row<K: Sink>(&mut self, sink: &mut K) -> Result<(), Failed>
-        ensures ok { OnOk result (Appends (K.gained sink.old) (K.gained sink.new) self.old.bytes) }
-        ensures err { OnErr result (GainsFront (K.gained sink.old) (K.gained sink.new) (K.settled sink.old) (K.settled sink.new) self.old.bytes) }
+        ensures ok { OnOk result (Wrote (K.gained sink.old) (K.gained sink.new) (K.settled sink.old) (K.settled sink.new) self.old.bytes) }
+        ensures err { OnErr result (WroteFront (K.gained sink.old) (K.gained sink.new) (K.settled sink.old) (K.settled sink.new) self.old.bytes) }
         ensures failed { OnErr result (HasFailed (K.fault_count sink.old) (K.fault_count sink.new)) }
-        ensures settles { OnOk result (K.settled sink.new ≡ settled_after (length self.old.bytes) (K.settled sink.old)) }
         ensures faults { K.fault_count sink.old ≤ K.fault_count sink.new }
         ensures origin { K.origin sink.new ≡ K.origin sink.old }
         ensures buffer { self.new ≡ self.old }
@@ -119,7 +116,7 @@ impl CopyWriter {
     pub fn trailer<K: Sink>(&mut self, sink: &mut K) -> Result<(), Failed>
         ensures ok { OnOk result (Appends (K.gained sink.old) (K.gained sink.new) trailer) }
         ensures settled { OnOk result (K.settled sink.new ≡ option_map (λ _. true) (K.settled sink.old)) }
-        ensures err { OnErr result (GainsFront (K.gained sink.old) (K.gained sink.new) (K.settled sink.old) (K.settled sink.new) trailer) }
+        ensures err { OnErr result (WroteFront (K.gained sink.old) (K.gained sink.new) (K.settled sink.old) (K.settled sink.new) trailer) }
         ensures failed { OnErr result (HasFailed (K.fault_count sink.old) (K.fault_count sink.new)) }
         ensures faults { K.fault_count sink.old ≤ K.fault_count sink.new }
         ensures origin { K.origin sink.new ≡ K.origin sink.old }

@@ -1,15 +1,14 @@
 -- What was taken and written of a stream, one row more at a time.
 use Rattle.std.proofs.Common.{◌≡◌, ℕ, ◌<◌, suc, cond, List, [], ◌∷◌, ◌++◌, length, Bool, true, false, option_map, Option, None, Some, Result, Err, refl, sym, ap, ◌∙◌, arith, subst, append_assoc, append-nil, length-append}
 use Rattle.std.specs.List.{flat_map, AllByRecursion}
-use Rattle.std.specs.Io.KnownBytes.{Appends, Keeps}
 use Rattle.std.proofs.lemmas.Grind.{flat_map-append}
 use Rattle.pgw_wire.specs.Cell.{Cell}
-use Rattle.pgw_wire.specs.Outside.{Took, settled_after}
+use Rattle.pgw_wire.specs.Outside.{Took, Wrote, settled_after}
 use lib.Dec.{eqb}
-use Rattle.pgw_wire.proofs.Adding.{appends_then}
+use Rattle.pgw_wire.proofs.Adding.{wrote_then}
 use Rattle.pgw_copy.specs.Format.{IsHeader, IsRow, canonical_header}
 use Rattle.pgw_copy.specs.Reader.{header_fault}
-use Rattle.pgw_copy.specs.Writer.{GainsFront}
+use Rattle.pgw_copy.specs.Writer.{WroteFront}
 use Rattle.pgw_copy.specs.declared.fault.CopyReadError.{CopyReadError}
 use Rattle.pgw_copy.specs.declared.fault.CopyReadError.TheVariants.{BadHeader, BadFlags, Truncated, BadFieldCount, ReadFault, NoMemory}
 use Rattle.pgw_tree.specs.declared.fault.CopyFault.{CopyFault}
@@ -18,7 +17,8 @@ use Rattle.pgw_tree.specs.Spells.{SpellsRow, FitsRow}
 use Rattle.pgw_tree.specs.Stream.{AreRows, IsFront, IsWithin, Limits}
 use Rattle.pgw_tree.specs.Canonical.{canonical_row, canonical_front}
 use Rattle.pgw_tree.specs.Faults.{fault_of}
-use Rattle.pgw_tree.specs.Causes.{IsValuesRow, IsCopying, PartWritten, header_cause}
+use Rattle.pgw_tree.specs.Causes.{PartWritten, header_cause}
+use Rattle.pgw_tree.specs.Turns.{IsValuesRow, IsCopying}
 
 rows_more : (ts : List Shape) (body x : List ℕ) (rows : List (List Value)) (cells : List Cell) (vs : List Value) → AreRows ts body rows → IsRow cells x → SpellsRow ts cells vs → AreRows ts (body ++ x) (rows ++ (vs ∷ []))
 rows_more ts body x [] cells vs each row spelled = (cells, x, [], row, spelled, refl, ap (λ l. l ++ x) each ∙ sym (append-nil x))
@@ -50,35 +50,31 @@ canonical_more ts rows vs =
     ∙ sym (append_assoc canonical_header (flat_map (canonical_row ts) rows) (canonical_row ts vs))
 
 -- a header, and no row yet
-pub none_copied : (limits : Limits) (ts : List Shape) (a b : Option (List ℕ)) (header : List ℕ) → IsHeader header → Appends a b canonical_header → IsCopying limits ts 0 a b header
-none_copied limits ts a b header h added = record {
+pub none_copied : (limits : Limits) (ts : List Shape) (Written : List ℕ → Type 0) (header : List ℕ) → IsHeader header → Written canonical_header → IsCopying limits ts 0 Written header
+none_copied limits ts Written header h written = record {
   rows = [];
   begins = record { header = header; body = []; begins = h; each = refl; is = sym (append-nil header) };
   within = record { few = omega arith; fit = tt };
   many = refl;
-  added = subst (λ (l : List ℕ). Appends a b l) (sym (append-nil canonical_header)) added;
+  written = subst Written (sym (append-nil canonical_header)) written;
 }
 
 -- one row more
-pub one_copied : (limits : Limits) (ts : List Shape) (n : ℕ) (a b c : Option (List ℕ)) (x y written : List ℕ) (vs : List Value) → IsCopying limits ts n a b x → n < limits.rows_max → IsValuesRow limits.field_max ts y vs → written ≡ canonical_row ts vs → Appends b c written → IsCopying limits ts (suc n) a c (x ++ y)
-one_copied limits ts n a b c x y written vs k more row is added = record {
+pub one_copied : (limits : Limits) (ts : List Shape) (n : ℕ) (a b c : Option (List ℕ)) (s t u : Option Bool) (x y written : List ℕ) (vs : List Value) → IsCopying limits ts n (Wrote a b s t) x → n < limits.rows_max → IsValuesRow limits.field_max ts y vs → written ≡ canonical_row ts vs → Wrote b c t u written → IsCopying limits ts (suc n) (Wrote a c s u) (x ++ y)
+one_copied limits ts n a b c s t u x y written vs k more row is wrote = record {
   rows = k.rows ++ (vs ∷ []);
   begins = front_more limits.field_max ts x y k.rows vs k.begins row;
   within = within_more limits ts k.rows vs k.within (omega (arith, more, k.many)) row.fit;
   many = omega (arith, k.many, length-append k.rows (vs ∷ []));
-  added = subst (λ (l : List ℕ). Appends a c l) (ap (λ l. canonical_front ts k.rows ++ l) is ∙ sym (canonical_more ts k.rows vs)) (appends_then a b c (canonical_front ts k.rows) written k.added added);
+  written = subst (λ (l : List ℕ). Wrote a c s u l) (ap (λ l. canonical_front ts k.rows ++ l) is ∙ sym (canonical_more ts k.rows vs)) (wrote_then k.written wrote);
 }
 
--- what the sink gained of what comes next
-pub part_written : (must next : List ℕ) (a b c : Option (List ℕ)) (s t : Option Bool) → Appends a b must → GainsFront b c s t next → PartWritten must next a c
-part_written must next a b c s t h g = record { part = g.front; rest = g.rest; is = g.splits; added = appends_then a b c must g.front h g.gained }
+-- what was written of what comes next
+pub part_written : {a b c : Option (List ℕ)} {s t u : Option Bool} (must next : List ℕ) → Wrote a b s t must → WroteFront b c t u next → PartWritten must next (Wrote a c s u)
+part_written must next w f = record { part = f.front; rest = f.rest; is = f.splits; written = wrote_then w f.wrote }
 
-pub part_alone : (next : List ℕ) (a b : Option (List ℕ)) (s t : Option Bool) → GainsFront a b s t next → PartWritten [] next a b
-part_alone next a b s t g = record { part = g.front; rest = g.rest; is = g.splits; added = g.gained }
-
-pub keeps_same : (a : Option (List ℕ)) → Keeps a a
-keeps_same None = tt
-keeps_same (Some xs) = refl
+pub part_alone : {a b : Option (List ℕ)} {s t : Option Bool} (next : List ℕ) → WroteFront a b s t next → PartWritten [] next (Wrote a b s t)
+part_alone next f = record { part = f.front; rest = f.rest; is = f.splits; written = f.wrote }
 
 -- what an error of the reader's header says
 pub header_says : (e : CopyReadError) (bytes : List ℕ) → header_fault e bytes → header_cause (fault_of e) bytes
@@ -87,7 +83,7 @@ header_says (BadFlags flags) bytes h = h
 header_says Truncated bytes h = h
 header_says (BadFieldCount count) bytes h = h
 header_says ReadFault bytes h = h
-header_says NoMemory bytes h = tt
+header_says NoMemory bytes h = absurd h
 
 -- A fault is the one that was answered.
 pub says_at : {X : Type 0} (r : Result X CopyFault) (a b : Option (List ℕ)) (e : CopyFault) (Says : CopyFault → List ℕ → Type 0) → r ≡ Err e → Took a b (Says e) → (fault : CopyFault) → r ≡ Err fault → Took a b (Says fault)

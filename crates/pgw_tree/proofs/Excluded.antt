@@ -258,10 +258,10 @@ header_excluded WriteFault bytes rest header behind c end h e = absurd c
 header_excluded NoMemory bytes rest header behind c end h e = inr (inr refl)
 
 -- Where a fault of the bytes says what it says, no front of all bytes is a stream within the limits.
-pub excluded : (limits : Limits) (ts : List Shape) (fault : CopyFault) (g g' : Option (List ℕ)) (taken rest front behind : List ℕ) → fault_says limits ts fault g g' taken → (fault ≡ Truncated → rest ≡ []) → IsValidStream limits ts front → taken ++ rest ≡ front ++ behind → (fault ≡ ReadFault) ⊎ (fault ≡ WriteFault) ⊎ (fault ≡ NoMemory)
-excluded limits ts fault g g' taken rest front behind (inl h) end v e =
+pub excluded : (limits : Limits) (ts : List Shape) (fault : CopyFault) (Written : List ℕ → Type 0) (taken rest front behind : List ℕ) → fault_says limits ts fault Written taken → (fault ≡ Truncated → rest ≡ []) → IsValidStream limits ts front → taken ++ rest ≡ front ++ behind → (fault ≡ ReadFault) ⊎ (fault ≡ WriteFault) ⊎ (fault ≡ NoMemory)
+excluded limits ts fault Written taken rest front behind (inl h) end v e =
     header_excluded fault taken rest v.1.begins.header (v.1.begins.body ++ (trailer ++ behind)) h.0 end v.1.begins.begins (e ∙ stream_parts limits ts front behind v)
-excluded limits ts fault g g' taken rest front behind (inr (inl s)) end v e =
+excluded limits ts fault Written taken rest front behind (inr (inl s)) end v e =
     row_excluded limits ts (length s.rows) fault s.behind rest s.cause end
     (goes limits ts s.front (s.behind ++ rest) front behind s.rows s.begins v (sym (ap (λ l. l ++ rest) s.is ∙ append_assoc s.front s.behind rest) ∙ e))
-excluded limits ts fault g g' taken rest front behind (inr (inr w)) end v e = inr (inl w.0)
+excluded limits ts fault Written taken rest front behind (inr (inr w)) end v e = inr (inl w.0)

@@ -1,5 +1,5 @@
 -- How the answers of calls that take a part of a stream make that of a call of the copy.
-use Rattle.std.proofs.Common.{◌≡◌, ℕ, ◌<◌, List, ◌++◌, Option, None, Some, Bool, true, false, Result, Ok, Err, refl, sym, ap, ◌∙◌, arith, inl}
+use Rattle.std.proofs.Common.{◌≡◌, ℕ, ◌<◌, List, ◌++◌, Option, None, Some, Bool, true, false, Result, Ok, Err, refl, sym, ap, ◌∙◌, arith, inl, inr}
 use Rattle.std.specs.Prelude.{is_some}
 use mathlib.Core.Bool.{not}
 use Rattle.std.specs.Result.{IsErrAnd}
@@ -10,14 +10,15 @@ use Rattle.pgw_wire.proofs.Taking.{took_then, took_weaker}
 use Rattle.pgw_copy.specs.declared.fault.CopyReadError.{CopyReadError}
 use Rattle.pgw_copy.specs.declared.fault.CopyReadError.TheVariants.{BadHeader, BadFlags, Truncated as reader_truncated, BadFieldCount, ReadFault as reader_failed, NoMemory}
 use Rattle.pgw_copy.specs.Format.{IsCount}
-use Rattle.pgw_copy.specs.Reader.{Takes, cut_fault, count_fault, AreCutFields}
-use Rattle.pgw_copy.proofs.Reading.{cut_row}
+use Rattle.pgw_copy.specs.Reader.{Takes, kept_fault, count_fault, AreCutFields, AreWholeFields}
+use Rattle.pgw_copy.proofs.Reading.{cut_row, row_of}
 use Rattle.pgw_tree.specs.declared.fault.CopyFault.{CopyFault}
 use Rattle.pgw_tree.specs.declared.fault.CopyFault.TheVariants.{Truncated, ReadFault}
 use Rattle.pgw_tree.specs.Tree.{Shape}
 use Rattle.pgw_tree.specs.Stream.{Limits}
 use Rattle.pgw_tree.specs.Faults.{fault_of}
-use Rattle.pgw_tree.specs.Causes.{TakesPart, row_cause}
+use Rattle.pgw_tree.specs.Causes.{row_cause}
+use Rattle.pgw_tree.specs.Turns.{TakesPart}
 
 along : {Z : Type 0} (R : Z → Type 0) {u v : Z} → u ≡ v → R u → R v
 along R e p = rw (← e) p
@@ -78,17 +79,18 @@ count_cause limits ts rows BadHeader bytes h = absurd h
 count_cause limits ts rows (BadFlags flags) bytes h = absurd h
 count_cause limits ts rows reader_truncated bytes h = (inl h, λ two. omega (arith, h, two))
 count_cause limits ts rows (BadFieldCount count) bytes h = h
-count_cause limits ts rows reader_failed bytes h = inl h
-count_cause limits ts rows NoMemory bytes h = tt
+count_cause limits ts rows reader_failed bytes h = (inl h, λ two. omega (arith, h, two))
+count_cause limits ts rows NoMemory bytes h = absurd h
 
 -- what an error of the fields behind a count says of the row
-pub fields_cause : (limits : Limits) (ts : List Shape) (rows n : ℕ) (e : CopyReadError) (x y : List ℕ) → rows < limits.rows_max → IsCount (Some n) x → cut_fault (AreCutFields n) e y → row_cause limits ts rows (fault_of e) (x ++ y)
+pub fields_cause : (limits : Limits) (ts : List Shape) (rows n : ℕ) (e : CopyReadError) (x y : List ℕ) → rows < limits.rows_max → IsCount (Some n) x → kept_fault (AreCutFields n) (AreWholeFields n) e y → row_cause limits ts rows (fault_of e) (x ++ y)
 fields_cause limits ts rows n BadHeader x y allowed count h = absurd h
 fields_cause limits ts rows n (BadFlags flags) x y allowed count h = absurd h
 fields_cause limits ts rows n reader_truncated x y allowed count h = (cut_row n x y count h, λ _. allowed)
 fields_cause limits ts rows n (BadFieldCount c) x y allowed count h = absurd h
-fields_cause limits ts rows n reader_failed x y allowed count h = cut_row n x y count h
-fields_cause limits ts rows n NoMemory x y allowed count h = tt
+fields_cause limits ts rows n reader_failed x y allowed count h = (cut_row n x y count h, λ _. allowed)
+fields_cause limits ts rows n NoMemory x y allowed count (inl cut) = (allowed, inl (cut_row n x y count cut))
+fields_cause limits ts rows n NoMemory x y allowed count (inr whole) = (allowed, inr (whole.0, row_of n whole.0 x y count whole.1 whole.2))
 
 pub some_count : (o : Option ℕ) (none : Bool) → is_some o ≡ not none → none ≡ false → (n : ℕ) × (o ≡ Some n)
 some_count None none e is = absurd (cc)

@@ -6,4 +6,5 @@ pub mod Stream
 pub mod Tree
 pub mod Handed
 pub mod Causes
+pub mod Turns
 pub mod Faults

@@ -1,11 +1,12 @@
-ghost use Rattle.std.specs.Prelude.{◌≡◌, ◌<◌, ◌≤◌, ◌^◌, List, length, true, Ok, Err, IfOk, OnOk, OnErr, IsOkUnless, option_map, ⊤};
+ghost use Rattle.std.specs.Prelude.{◌≡◌, ◌<◌, ◌≤◌, ◌^◌, List, length, true, Ok, Err, IfOk, OnOk, IsErr, IsOkUnless, option_map, ⊤};
 ghost use Rattle.std.specs.Io.KnownBytes.{Appends, IsAtEnd};
-ghost use Rattle.pgw_wire.specs.Outside.{HasFailed, Took, HasFront, Gains, SettledAfter};
+ghost use Rattle.pgw_wire.specs.Outside.{HasFailed, Took, HasFront, HasNoFront, Gains, Wrote};
 ghost use Rattle.pgw_tree.specs.Tree.{Value, shapes};
 ghost use Rattle.pgw_tree.specs.Stream.{IsStream, IsStreamOf, IsValidStream};
 ghost use Rattle.pgw_tree.specs.Canonical.{canonical_stream};
 ghost use Rattle.pgw_tree.specs.Handed.{limits_of};
-ghost use Rattle.pgw_tree.specs.Causes.{IsCopied, fault_says};
+ghost use Rattle.pgw_tree.specs.Causes.{fault_says};
+ghost use Rattle.pgw_tree.specs.Turns.{IsCopied};
 
 use crate::turn::next_row;
 use crate::{CopyFault, FirstType, Limits};
@@ -23,16 +24,16 @@ fn copy_stream<S: Source, K: Sink>(
 ) -> Result<u64, CopyFault>
     requires { length columns.now < 2 ^ 15 }
     ensures copied { (n : _) → result ≡ Ok n → Took (S.left source.old) (S.left source.new)
-        (IsCopied (limits_of limits) (shapes columns.now) n (K.gained sink.old) (K.gained sink.new)) }
+        (IsCopied (limits_of limits) (shapes columns.now) n (Appends (K.gained sink.old) (K.gained sink.new))) }
     ensures fault { (fault : _) → result ≡ Err fault → Took (S.left source.old) (S.left source.new)
-        (fault_says (limits_of limits) (shapes columns.now) fault (K.gained sink.old) (K.gained sink.new)) }
+        (fault_says (limits_of limits) (shapes columns.now) fault
+        (Wrote (K.gained sink.old) (K.gained sink.new) (K.settled sink.old) (K.settled sink.new))) }
     ensures at_end { result ≡ Err CopyFault.Truncated → IsAtEnd (S.left source.new) }
     ensures read_fault { result ≡ Err CopyFault.ReadFault
         → HasFailed (S.fault_count source.old) (S.fault_count source.new) }
     ensures write_fault { result ≡ Err CopyFault.WriteFault
         → HasFailed (K.fault_count sink.old) (K.fault_count sink.new) }
     ensures settled { OnOk result (K.settled sink.new ≡ option_map (λ _. true) (K.settled sink.old)) }
-    ensures unsettled { OnErr result (SettledAfter (K.settled sink.old) (K.settled sink.new)) }
     ensures source_faults { S.fault_count source.old ≤ S.fault_count source.new }
     ensures source_origin { S.origin source.new ≡ S.origin source.old }
     ensures sink_faults { K.fault_count sink.old ≤ K.fault_count sink.new }
@@ -93,9 +94,10 @@ pub fn recopy_first<S: Source, K: Sink>(
         → Appends (K.gained sink.old) (K.gained sink.new) (canonical_stream (shapes columns.now) rows))) }
     ensures settled { OnOk result (K.settled sink.new ≡ option_map (λ _. true) (K.settled sink.old)) }
 
-    // What each fault says of the bytes that were taken, and of those that were written.
+    // What each fault says of the bytes that were taken, and of those that were written by writes alone.
     ensures fault { (fault : _) → result ≡ Err fault → Took (S.left source.old) (S.left source.new)
-        (fault_says (limits_of limits) (shapes columns.now) fault (K.gained sink.old) (K.gained sink.new)) }
+        (fault_says (limits_of limits) (shapes columns.now) fault
+        (Wrote (K.gained sink.old) (K.gained sink.new) (K.settled sink.old) (K.settled sink.new))) }
     ensures truncated { result ≡ Err CopyFault.Truncated → IsAtEnd (S.left source.new) }
     ensures read_fault { result ≡ Err CopyFault.ReadFault
         → HasFailed (S.fault_count source.old) (S.fault_count source.new) }
@@ -108,10 +110,12 @@ pub fn recopy_first<S: Source, K: Sink>(
         → (HasFailed (K.fault_count sink.old) (K.fault_count sink.new) → ⊥)
         → IsOkUnless result CopyFault.NoMemory }
 
+    // What is told to begin with no valid stream is not copied.
+    ensures refused { HasNoFront (S.left source.old) (IsValidStream (limits_of limits) (shapes columns.now)) → IsErr result }
+
     // What is left, whatever it answers.
     ensures taken { Took (S.left source.old) (S.left source.new) (λ _. ⊤) }
     ensures gained { Gains (K.gained sink.old) (K.gained sink.new) }
-    ensures unsettled { OnErr result (SettledAfter (K.settled sink.old) (K.settled sink.new)) }
     ensures source_faults { S.fault_count source.old ≤ S.fault_count source.new }
     ensures source_origin { S.origin source.new ≡ S.origin source.old }
     ensures sink_faults { K.fault_count sink.old ≤ K.fault_count sink.new }

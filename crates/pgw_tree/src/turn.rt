@@ -7,7 +7,8 @@ ghost use Rattle.pgw_tree.specs.Spells.{SpellsRow, FitsRow};
 ghost use Rattle.pgw_tree.specs.Canonical.{canonical_row};
 ghost use Rattle.pgw_tree.specs.Columns.{BreaksAt, IsLongAt};
 ghost use Rattle.pgw_tree.specs.Handed.{limits_of};
-ghost use Rattle.pgw_tree.specs.Causes.{TakesPart, IsValuesRow, row_cause, IsTurn};
+ghost use Rattle.pgw_tree.specs.Causes.{row_cause};
+ghost use Rattle.pgw_tree.specs.Turns.{TakesPart, IsTurn};
 
 use crate::cells::{RowFault, push_columns};
 use crate::{CopyFault, FirstType, Limits};

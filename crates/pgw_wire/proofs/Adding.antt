@@ -1,9 +1,9 @@
 -- What a sink gained, call by call, and whether that is settled.
-use Rattle.std.proofs.Common.{◌≡◌, ℕ, Bool, true, false, cond, eqb, List, [], ◌++◌, take, drop, ◌+◌, subst, Option, None, Some, refl, sym, ap, ◌∙◌, append_assoc, append-nil}
+use Rattle.std.proofs.Common.{◌≡◌, ℕ, zero, suc, ◌<◌, Bool, false, cond, eqb, List, [], ◌++◌, length, length-append, take, drop, ◌+◌, rules, arith, subst, Option, None, Some, refl, sym, ap, ◌∙◌, append_assoc, append-nil}
 use Rattle.std.proofs.Math.Seq.{take-add}
 use Rattle.std.specs.Prelude.{option_map}
 use Rattle.std.specs.Io.KnownBytes.{Appends, Keeps}
-use Rattle.pgw_wire.specs.Outside.{settled_after, SettledAfter, Gains}
+use Rattle.pgw_wire.specs.Outside.{settled_after, Wrote}
 
 -- two calls added the bytes of both
 pub appends_then : (a b c : Option (List ℕ)) (x y : List ℕ) → Appends a b x → Appends b c y → Appends a c (x ++ y)
@@ -21,30 +21,48 @@ twice : (a : Option Bool) → option_map {T = Bool} {U = Bool} (λ _. false) (op
 twice None = refl
 twice (Some b) = refl
 
--- Two calls after which it is settled so are as one.
-pub settled_then : (a b c : Option Bool) → SettledAfter a b → SettledAfter b c → SettledAfter a c
-settled_then a b c (m, e) (n, f) = by_test (eqb n 0) (eqb m 0) refl refl
+settled_positive : (k : ℕ) (a : Option Bool) → 0 < k → settled_after k a ≡ option_map {T = Bool} {U = Bool} (λ _. false) a
+settled_positive zero a h = absurd (omega (arith, h))
+settled_positive (suc k) a h = ap (λ t. cond t a (option_map {T = Bool} {U = Bool} (λ _. false) a)) (isnt (suc k) h)
   where
-    by_test : (s t : Bool) → eqb n 0 ≡ s → eqb m 0 ≡ t → SettledAfter a c
-    by_test true t is is' = (m, f ∙ ap (λ x. cond x b (option_map (λ _. false) b)) is ∙ e)
-    by_test false true is is' = (n, f ∙ ap (settled_after n) (e ∙ ap (λ x. cond x a (option_map (λ _. false) a)) is'))
-    by_test false false is is' = (
-      n,
-      f ∙ ap (λ x. cond x b (option_map (λ _. false) b)) is ∙ ap (option_map (λ _. false)) (e ∙ ap (λ x. cond x a (option_map (λ _. false) a)) is') ∙ twice a
-          ∙ ap (λ x. cond x a (option_map (λ _. false) a)) (sym is),
-    )
+    isnt : (j : ℕ) → 0 < j → eqb j 0 ≡ false
+    isnt j p = search rules
 
--- A longer front of the piece was added.
-pub appends_more : (a b c : Option (List ℕ)) (piece : List ℕ) (sent n : ℕ) → Appends a b (take sent piece) → Appends b c (take n (drop sent piece)) → Appends a c (take (sent + n) piece)
-appends_more a b c piece sent n h k = subst (λ (l : List ℕ). Appends a c l) (sym (take-add sent n piece)) (appends_then a b c (take sent piece) (take n (drop sent piece)) h k)
+-- Two writes leave a sink settled or not as one of the bytes of both does.
+pub settled_more : (a b c : Option Bool) (m n : ℕ) → b ≡ settled_after m a → c ≡ settled_after n b → c ≡ settled_after (m + n) a
+settled_more a b c zero n e f = f ∙ ap (settled_after n) e ∙ ap (λ k. settled_after k a) (zero_plus n)
+  where
+    zero_plus : (k : ℕ) → k ≡ 0 + k
+    zero_plus k = omega arith
+settled_more a b c (suc m) zero e f = f ∙ e ∙ ap (λ k. settled_after k a) (plus_zero (suc m))
+  where
+    plus_zero : (k : ℕ) → k ≡ k + 0
+    plus_zero k = omega arith
+settled_more a b c (suc m) (suc n) e f = f ∙ settled_positive (suc n) b (omega arith) ∙ ap (option_map {T = Bool} {U = Bool} (λ _. false)) (e ∙ settled_positive (suc m) a (omega arith)) ∙ twice a ∙ sym (settled_positive (suc m + suc n) a (omega arith))
 
--- What was added, and what a later call added.
-pub gains_then : (a b c : Option (List ℕ)) (x : List ℕ) → Appends a b x → Gains b c → Gains a c
-gains_then a b c x h g = (x ++ g.0, appends_then a b c x g.0 h g.1)
+keeps_same : (a : Option (List ℕ)) → Keeps a a
+keeps_same None = tt
+keeps_same (Some xs) = refl
 
-pub gains_both : (a b c : Option (List ℕ)) → Gains a b → Gains b c → Gains a c
-gains_both a b c g h = gains_then a b c g.0 g.1 h
+-- Nothing was written.
+pub wrote_none : (a : Option (List ℕ)) (s : Option Bool) → Wrote a a s s []
+wrote_none a s = record { appends = appends_kept a a (keeps_same a); settles = refl }
+
+-- What was written, and what was written behind it.
+pub wrote_then : {a b c : Option (List ℕ)} {s t u : Option Bool} {x y : List ℕ} → Wrote a b s t x → Wrote b c t u y → Wrote a c s u (x ++ y)
+wrote_then {a = a} {b = b} {c = c} {s = s} {t = t} {u = u} {x = x} {y = y} w v = record {
+  appends = appends_then a b c x y w.appends v.appends;
+  settles = settled_more s t u (length x) (length y) w.settles v.settles ∙ ap (λ n. settled_after n s) (sym (length-append x y));
+}
 
 -- A flush adds nothing.
 pub appends_keeps : (a b c : Option (List ℕ)) (x : List ℕ) → Appends a b x → Keeps b c → Appends a c x
 appends_keeps a b c x h k = subst (λ (l : List ℕ). Appends a c l) (append-nil x) (appends_then a b c x [] h (appends_kept b c k))
+
+-- A call that failed wrote nothing.
+pub wrote_kept : {a b c : Option (List ℕ)} {s t u : Option Bool} {x : List ℕ} → Wrote a b s t x → Keeps b c → u ≡ t → Wrote a c s u x
+wrote_kept {a = a} {b = b} {c = c} {x = x} w k same = record { appends = appends_keeps a b c x w.appends k; settles = same ∙ w.settles }
+
+-- A longer front of the piece was written.
+pub wrote_more : {a b c : Option (List ℕ)} {s t u : Option Bool} (piece : List ℕ) (sent n : ℕ) → Wrote a b s t (take sent piece) → Wrote b c t u (take n (drop sent piece)) → Wrote a c s u (take (sent + n) piece)
+wrote_more {a = a} {c = c} {s = s} {u = u} piece sent n w v = subst (λ (l : List ℕ). Wrote a c s u l) (sym (take-add sent n piece)) (wrote_then w v)

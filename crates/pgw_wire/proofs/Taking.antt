@@ -1,9 +1,7 @@
--- What was taken from a source, call by call, and which fronts it does not have.
+-- What was taken from a source, call by call.
 use Rattle.std.proofs.Common.{◌≡◌, ℕ, List, [], ◌++◌, Option, None, Some, refl, sym, ap, ◌∙◌, append_assoc, append-nil}
-use Rattle.std.proofs.lemmas.List.{append_cancel_left}
-use Rattle.std.specs.Prelude.{⊤}
 use Rattle.std.specs.Io.KnownBytes.{Consumes, IsAtEnd, Keeps}
-use Rattle.pgw_wire.specs.Outside.{TakenFrom, Took, NoFront}
+use Rattle.pgw_wire.specs.Outside.{TakenFrom, Took}
 
 consumes_none : (a : Option (List ℕ)) → Consumes a a []
 consumes_none None = tt
@@ -54,46 +52,6 @@ took_consumed a b bytes P h p = record { taken = bytes; consumed = h; has = p }
 pub took_kept : (a b : Option (List ℕ)) (P : List ℕ → Type 0) → Keeps a b → P [] → Took a b P
 took_kept a b P h p = took_consumed a b [] P (consumes_kept a b h) p
 
--- what no front has, no front behind what was taken has
-pub no_front_then : {a b : Option (List ℕ)} {P Q R : List ℕ → Type 0} → Took a b P → NoFront b Q → ((x behind front rest : List ℕ) → P x → R front → x ++ behind ≡ front ++ rest → (y : List ℕ) × Q y × (front ≡ x ++ y)) → NoFront a R
-no_front_then {a = a} {Q = Q} t u split = record {
-  none = λ left front rest e s r.
-      let x = took_from a _ _ t left e in
-      let y = split x.taken x.rest front rest x.has r (sym x.left_is ∙ s) in
-      let q : Q y.0 = y.1 in
-      let same : x.taken ++ x.rest ≡ x.taken ++ (y.0 ++ rest) = sym x.left_is ∙ s ∙ ap (λ f. f ++ rest) y.2 ∙ append_assoc x.taken y.0 rest in
-      u.none x.rest y.0 rest x.now_is (append_cancel_left x.taken x.rest (y.0 ++ rest) same) q;
-}
-
--- a front that begins with no front is none
-pub no_front_begun : {a : Option (List ℕ)} {Q R : List ℕ → Type 0} → NoFront a Q → ((front : List ℕ) → R front → (x : List ℕ) × (y : List ℕ) × Q x × (front ≡ x ++ y)) → NoFront a R
-no_front_begun u begun = record {
-  none = λ left front rest e s r.
-      let p = begun front r in
-      u.none left p.0 (p.1 ++ rest) e (s ∙ ap (λ f. f ++ rest) p.3 ∙ append_assoc p.0 p.1 rest) p.2;
-}
-
--- what was taken fits no such front
-pub no_front_taken : {a b : Option (List ℕ)} {P R : List ℕ → Type 0} → Took a b P → ((x behind front rest : List ℕ) → P x → R front → x ++ behind ≡ front ++ rest → ⊥) → NoFront a R
-no_front_taken {a = a} t clash = record {
-  none = λ left front rest e s r.
-      let x = took_from a _ _ t left e in
-      clash x.taken x.rest front rest x.has r (sym x.left_is ∙ s);
-}
-
 pub ended : (b : Option (List ℕ)) (rest : List ℕ) → IsAtEnd b → b ≡ Some rest → rest ≡ []
 ended None rest end is = absurd (cc)
 ended (Some xs) rest end is = let same : xs ≡ rest = cc in sym same ∙ end
-
--- nothing is left behind what was taken, so a front is a front of that
-pub no_front_at_end : {a b : Option (List ℕ)} {P R : List ℕ → Type 0} → Took a b P → IsAtEnd b → ((x front rest : List ℕ) → P x → R front → x ≡ front ++ rest → ⊥) → NoFront a R
-no_front_at_end {a = a} {b = b} t end clash = record {
-  none = λ left front rest e s r.
-      let x = took_from a _ _ t left e in
-      let none = ended b x.rest end x.now_is in
-      clash x.taken front rest x.has r (sym (append-nil x.taken) ∙ ap (λ r. x.taken ++ r) (sym none) ∙ sym x.left_is ∙ s);
-}
-
--- whatever was taken
-pub took_both : {a b c : Option (List ℕ)} {P Q : List ℕ → Type 0} → Took a b P → Took b c Q → Took a c (λ _. ⊤)
-took_both t u = took_then t u (λ _ _ _ _. tt)

@@ -1,5 +1,5 @@
 -- What the calls of a source or a sink leave, in words that both traits share.
-use Rattle.std.specs.Prelude.{ℕ, ◌≡◌, ◌+◌, ◌-◌, ◌^◌, ◌≤◌, ◌==◌, ◌++◌, Bool, false, List, Option, Some, option_map, min, if◌then◌else◌}
+use Rattle.std.specs.Prelude.{ℕ, ◌≡◌, ◌+◌, ◌-◌, ◌^◌, ◌≤◌, ◌==◌, ◌++◌, Bool, false, List, length, Option, Some, option_map, min, if◌then◌else◌}
 use Rattle.std.specs.Io.KnownBytes.{Appends, Consumes}
 
 -- one more, where the count stops at the largest u64
@@ -28,10 +28,6 @@ pub record Took (before now : Option (List ℕ)) (P : List ℕ → Type 0) : Typ
   pub consumed : Consumes before now taken
   pub has : P taken
 
--- No front of what is left has P, where it is told what is left.
-pub record NoFront (before : Option (List ℕ)) (P : List ℕ → Type 0) : Type 0 where
-  pub none : (left front rest : List ℕ) → before ≡ Some left → left ≡ front ++ rest → P front → ⊥
-
 -- It is told what is left, and some front of that has P.
 pub record HasFront (before : Option (List ℕ)) (P : List ℕ → Type 0) : Type 0 where
   pub front : List ℕ
@@ -39,10 +35,18 @@ pub record HasFront (before : Option (List ℕ)) (P : List ℕ → Type 0) : Typ
   pub is : before ≡ Some (front ++ rest)
   pub has : P front
 
+-- It is told what is left, and no front of that has P.
+pub record HasNoFront (before : Option (List ℕ)) (P : List ℕ → Type 0) : Type 0 where
+  pub left : List ℕ
+  pub is : before ≡ Some left
+  pub none : (front rest : List ℕ) → left ≡ front ++ rest → P front → ⊥
+
 -- A sink still begins with what it had gained, where that is told.
 abbrev pub Gains : Option (List ℕ) → Option (List ℕ) → Type 0
 Gains before now = (bytes : List ℕ) × Appends before now bytes
 
--- A sink tells that it is settled as before, or that it is not, since it took a byte.
-abbrev pub SettledAfter : Option Bool → Option Bool → Type 0
-SettledAfter before now = (n : ℕ) × (now ≡ settled_after n before)
+-- A sink got these bytes by writes alone: it gained them, where it tells that, and where it tells whether it is settled,
+-- it is no longer once it took a byte.
+pub record Wrote (gained gained_now : Option (List ℕ)) (settled settled_now : Option Bool) (bytes : List ℕ) : Type 0 where
+  pub appends : Appends gained gained_now bytes
+  pub settles : settled_now ≡ settled_after (length bytes) settled

@@ -1,19 +1,21 @@
-use Rattle.std.proofs.Common.{rules, ◌≡◌, ◌++◌, length, refl, sym, ap, ◌∙◌, arith, length-append, append_assoc}
+use Rattle.std.proofs.Common.{rules, ◌≡◌, ◌≤◌, ◌++◌, length, refl, sym, ap, ◌∙◌, arith, length-append, append_assoc}
 use Rattle.std.proofs.lemmas.List.{length-take-le}
-use Rattle.pgw_wire.proofs.Taking.{took_then, took_both, took_weaker}
+use Rattle.pgw_wire.proofs.Taking.{took_then, took_weaker}
 use Rattle.pgw_copy.proofs.Lists.{take_piece}
-use Rattle.pgw_copy.proofs.Reading.{exit, takes_later, takes_done, takes_no_memory, short_later}
+use Rattle.pgw_copy.proofs.Reading.{exit, takes_later, takes_done, takes_no_memory, short_kept, short_or_whole}
 use Rattle.pgw_copy.proofs.source.take_bytes.Goals as goal
 
 pub returns-in_err-fill-clause-takes : goal.returns-in_err-fill-clause-takes
 returns-in_err-fill-clause-takes g c =
     let next = length-take-le c.min-next.result c.loop-left.chunk (omega (arith, c.loop-left.invariant.chunk)) in
     takes_later _ _ (exit c.from_residual.result _ c.from_residual.ensures.1) c.loop-left.invariant.took c.in_err-fill.ensures.takes (λ f. omega (arith, f, c.loop-left.invariant.faults))
-    (λ d x y so_far. short_later d x y _ _ (omega (arith, so_far.0, next)))
+    (λ d x y so_far. short_kept d x y _ _ (omega (arith, so_far.0, next)))
 
 pub returns-in_err-push_all-clause-takes : goal.returns-in_err-push_all-clause-takes
 returns-in_err-push_all-clause-takes g c =
-    takes_no_memory _ _ (exit c.from_residual-in_err-push_all.result _ c.from_residual-in_err-push_all.ensures.1) (took_both c.loop-left.invariant.took (c.in_ok-fill.ensures.takes.ok _ refl)) (λ _. tt)
+    let next = length-take-le c.min-next.result c.loop-left.chunk (omega (arith, c.loop-left.invariant.chunk)) in
+    let within = took_then {R = λ z. length z ≤ c.args.len} c.loop-left.invariant.took (c.in_ok-fill.ensures.takes.ok _ refl) (λ x y so_far is. omega (arith, so_far.0, ap length is, next, c.fill.auto.buf, length-append x y)) in
+    takes_no_memory _ _ (exit c.from_residual-in_err-push_all.result _ c.from_residual-in_err-push_all.ensures.1) within (short_or_whole c.args.len)
 
 pub loop-left-preserved : goal.loop-left-preserved
 loop-left-preserved g c =

@@ -1,4 +1,4 @@
-use Rattle.std.proofs.Common.{◌∙◌, ℕ, ◌<◌, true, false, Err, refl, ap, arith, subst}
+use Rattle.std.proofs.Common.{◌∙◌, ℕ, ◌<◌, true, false, Err, refl, ap, arith, subst, inr}
 use Rattle.pgw_wire.proofs.Taking.{took_then, took_weaker}
 use Rattle.pgw_copy.specs.State.{cells_of}
 use Rattle.pgw_copy.proofs.Reading.{row_of}
@@ -97,5 +97,8 @@ returns-in-Err-NoMemory-clause-takes g c =
     let n = some.0 in
     let counted = rw some.1 at (c.in_ok-next_count.ensures.takes.ok _ refl) in
     let pends = c.in_ok-next_count.ensures.ok.0 ∙ some.1 in
+    let cells = cells_of c.in_ok-row.row in
+    let many = c.in_ok-row.ensures.many n pends in
     let each = (c.in_ok-row.ensures.takes n pends).ok _ refl in
-    part_error NoMemory _ _ (took_then counted each (λ _ _ _ _. tt)) (λ h. absurd (cc)) (λ h. absurd (cc))
+    let allowed : c.args.rows < (limits_of c.args.limits).rows_max = omega (arith, c.requires.allowed, c.if-rows-rows_max.false, c.rows_max.ensures) in
+    part_error NoMemory _ _ (took_then counted each (λ x y count fields. (allowed, inr (cells, row_of n cells x y count many fields)))) (λ h. absurd (cc)) (λ h. absurd (cc))

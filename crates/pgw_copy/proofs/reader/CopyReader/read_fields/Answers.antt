@@ -2,15 +2,15 @@ use Rattle.std.proofs.Common.{rules, ◌≡◌, ◌∙◌, ℕ, Option, Some, re
 use Rattle.pgw_copy.proofs.Reading.{exit, takes_first, takes_done}
 use Rattle.pgw_copy.proofs.reader.CopyReader.read_fields.Goals as goal
 
-pending_is : (taken : Option ℕ) (n count : ℕ) (old : Option ℕ) → taken ≡ old → taken ≡ Some n → old ≡ Some count → n ≡ count
-pending_is taken n count old value unwrapped was = cc
+pending_is : (told : Option ℕ) (n count : ℕ) (old : Option ℕ) → told ≡ old → told ≡ Some n → old ≡ Some count → n ≡ count
+pending_is told n count old value unwrapped was = cc
 
 pub returns-in_err-take_fields : goal.returns-in_err-take_fields
 returns-in_err-take_fields g c =
     let is = exit c.from_residual.result _ c.from_residual.ensures.1 in (
-      (refl, (λ _. tt), rw is (c.take.ensures.after, refl)),
+      (refl, (λ _. tt), rw is (refl, refl)),
       record {
-        takes = λ count was. let same : c.unwrap-count.result ≡ count = pending_is _ _ _ _ c.take.ensures.value c.unwrap-count.ensures was in takes_first _ _ is (rw same at c.in_err-take_fields.ensures.takes) (λ f. f) (λ _ _ h. h);
+        takes = λ count was. let same : c.unwrap-count.result ≡ count = pending_is _ _ _ _ c.pending.ensures c.unwrap-count.ensures was in takes_first _ _ is (rw same at c.in_err-take_fields.ensures.takes) (λ f. f) (λ _ _ h. h);
         many = λ count was. rw is tt;
         reader = tt;
         faults = search rules;
@@ -20,10 +20,10 @@ returns-in_err-take_fields g c =
 
 pub returns : goal.returns
 returns g c = (
-  (refl, (λ _. tt), (c.take.ensures.after, refl)),
+  (refl, (λ _. tt), (refl, refl)),
   record {
-    takes = λ count was. let same : c.unwrap-count.result ≡ count = pending_is _ _ _ _ c.take.ensures.value c.unwrap-count.ensures was in takes_done _ _ _ (c.in_ok-take_fields.ensures.takes.ok _ refl);
-    many = λ count was. let same : c.unwrap-count.result ≡ count = pending_is _ _ _ _ c.take.ensures.value c.unwrap-count.ensures was in c.in_ok-take_fields.ensures.many ∙ same;
+    takes = λ count was. let same : c.unwrap-count.result ≡ count = pending_is _ _ _ _ c.pending.ensures c.unwrap-count.ensures was in takes_done _ _ _ (c.in_ok-take_fields.ensures.takes.ok _ refl);
+    many = λ count was. let same : c.unwrap-count.result ≡ count = pending_is _ _ _ _ c.pending.ensures c.unwrap-count.ensures was in c.in_ok-take_fields.ensures.many ∙ same;
     reader = tt;
     faults = search rules;
     origin = search rules;

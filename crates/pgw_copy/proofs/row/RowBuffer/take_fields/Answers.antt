@@ -2,15 +2,17 @@ use Rattle.std.proofs.Common.{rules, ◌++◌, List, sym, refl, arith, subst}
 use Rattle.pgw_wire.proofs.Taking.{took_then}
 use Rattle.pgw_wire.specs.Cell.{Cell}
 use Rattle.pgw_copy.specs.Format.{AreFields}
-use Rattle.pgw_copy.specs.Reader.{IsCutField, AreCutFields}
-use Rattle.pgw_copy.proofs.Fields.{cut_fields, fields_append}
-use Rattle.pgw_copy.proofs.Reading.{exit, cut_at, takes_later, takes_done}
+use Rattle.pgw_copy.specs.Reader.{IsCutField, IsWholeField, AreCutFields, AreWholeFields}
+use Rattle.pgw_copy.proofs.Fields.{cut_fields, fields_append, whole_fields}
+use Rattle.pgw_copy.proofs.Reading.{exit, kept_at, takes_later, takes_done}
 use Rattle.pgw_copy.proofs.row.RowBuffer.take_fields.Goals as goal
 
 pub returns-in_err-take_field-clause-takes : goal.returns-in_err-take_field-clause-takes
 returns-in_err-take_field-clause-takes g c =
     takes_later _ _ (exit c.from_residual.result _ c.from_residual.ensures.1) c.loop-field.invariant.took c.in_err-take_field.ensures.takes (λ f. omega (arith, f, c.loop-field.invariant.faults))
-    (λ d x y fields. cut_at IsCutField (AreCutFields c.args.count) d y (x ++ y) (cut_fields c.args.count c.loop-field.self x y (omega (arith, c.loop-field.invariant.many)) fields))
+    (λ d x y fields. kept_at IsCutField IsWholeField (AreCutFields c.args.count) (AreWholeFields c.args.count) d y (x ++ y)
+    (cut_fields c.args.count c.loop-field.self x y (omega (arith, c.loop-field.invariant.many)) fields)
+    (λ field. whole_fields c.args.count c.loop-field.self field.0 x y (omega (arith, c.loop-field.invariant.many)) fields field.1))
 
 pub loop-field-preserved : goal.loop-field-preserved
 loop-field-preserved g c = record {

@@ -1,4 +1,4 @@
-use Rattle.std.proofs.Common.{◌∙◌, List, [], ◌∷◌, ◌++◌, length, Some, refl, sym, ap, arith, subst}
+use Rattle.std.proofs.Common.{◌∙◌, List, [], ◌∷◌, ◌++◌, length, Some, refl, sym, ap, arith, subst, inr}
 use Rattle.pgw_wire.proofs.Taking.{took_weaker}
 use Rattle.pgw_copy.specs.declared.row.Place.{Place}
 use Rattle.pgw_copy.specs.declared.row.Place.TheVariants.{Piece}
@@ -17,7 +17,7 @@ invariant_of-self-in_err-push g c =
 
 pub returns-in_err-push-clause-takes : goal.returns-in_err-push-clause-takes
 returns-in_err-push-clause-takes g c =
-    takes_no_memory _ _ (exit c.from_residual-in_err-push.result _ c.from_residual-in_err-push.ensures.1) (c.in_ok-take_bytes.ensures.takes.ok _ refl) (λ _. tt)
+    takes_no_memory _ _ (exit c.from_residual-in_err-push.result _ c.from_residual-in_err-push.ensures.1) (c.in_ok-take_bytes.ensures.takes.ok _ refl) (λ _ h. inr h.0)
 
 pub invariant_of-self-2 : goal.invariant_of-self-2
 invariant_of-self-2 g c =

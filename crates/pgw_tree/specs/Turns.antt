@@ -1,0 +1,48 @@
+-- What the steps of a copy leave, for the crate's own functions: a row or the end at a time, and the rows so far.
+use Rattle.std.specs.Prelude.{◌≡◌, ℕ, List, length, Option, Bool, true, false, Result, Ok, Err}
+use Rattle.std.specs.Io.KnownBytes.{IsAtEnd}
+use Rattle.pgw_wire.specs.Cell.{Cell}
+use Rattle.pgw_wire.specs.Outside.{Took}
+use Rattle.pgw_copy.specs.Format.{IsRow, trailer}
+use Rattle.pgw_tree.specs.declared.fault.CopyFault.{CopyFault}
+use Rattle.pgw_tree.specs.declared.fault.CopyFault.TheVariants.{Truncated, ReadFault}
+use Rattle.pgw_tree.specs.Tree.{Shape, Value}
+use Rattle.pgw_tree.specs.Spells.{SpellsRow, FitsRow}
+use Rattle.pgw_tree.specs.Canonical.{canonical_row, canonical_front, canonical_stream}
+use Rattle.pgw_tree.specs.Stream.{Limits, IsFront, IsStream, IsWithin}
+
+-- a row whose first cells spell these values, which fit
+pub record IsValuesRow (most : ℕ) (columns : List Shape) (bytes : List ℕ) (values : List Value) : Type 0 where
+  pub cells : List Cell
+  pub is : IsRow cells bytes
+  pub spelled : SpellsRow columns cells values
+  pub fit : FitsRow most columns values
+
+-- At Ok(x) the bytes taken have P x, and at a fault Fault of it. `Truncated` comes only at the end of the source, and
+-- `ReadFault` only where the source failed.
+pub record TakesPart {X : Type 0} (before now : Option (List ℕ)) (failed : Type 0) (result : Result X CopyFault) (P : X → List ℕ → Type 0) (Fault : CopyFault → List ℕ → Type 0) : Type 0 where
+  pub ok : (x : X) → result ≡ Ok x → Took before now (P x)
+  pub err : (e : CopyFault) → result ≡ Err e → Took before now (Fault e)
+  pub at_end : result ≡ Err Truncated → IsAtEnd now
+  pub has_failed : result ≡ Err ReadFault → failed
+
+-- Of a call that takes a row or the end: a row, whose canonical row is these bytes, or the end.
+abbrev pub IsTurn : Limits → List Shape → List ℕ → Bool → List ℕ → Type 0
+IsTurn limits columns written true bytes = (values : List Value) × IsValuesRow limits.field_max columns bytes values × (written ≡ canonical_row columns values)
+IsTurn limits columns written false bytes = bytes ≡ trailer
+
+-- Rows that were copied: the stream that spells them was taken, and its canonical form was written.
+pub record IsCopied (limits : Limits) (columns : List Shape) (n : ℕ) (Written : List ℕ → Type 0) (taken : List ℕ) : Type 0 where
+  pub rows : List (List Value)
+  pub stream : IsStream columns taken rows
+  pub within : IsWithin limits columns rows
+  pub many : length rows ≡ n
+  pub written : Written (canonical_stream columns rows)
+
+-- the rows so far: the front that spells them was taken, and its canonical form was written
+pub record IsCopying (limits : Limits) (columns : List Shape) (n : ℕ) (Written : List ℕ → Type 0) (taken : List ℕ) : Type 0 where
+  pub rows : List (List Value)
+  pub begins : IsFront columns taken rows
+  pub within : IsWithin limits columns rows
+  pub many : length rows ≡ n
+  pub written : Written (canonical_front columns rows)
