@@ -5,3 +5,4 @@ pub mod Fields
 pub mod Places
 pub mod Reading
 pub mod Sending
+pub mod Worked

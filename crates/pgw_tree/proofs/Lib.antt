@@ -5,6 +5,8 @@ pub mod RowFields
 pub mod Unique
 pub mod Excluded
 pub mod Worked
+pub mod WorkedColumns
+pub mod WorkedCauses
 pub mod Parts
 pub mod Copies
 pub mod Finish

@@ -1,32 +1,30 @@
 -- What the definitions say of headers, rows and streams that are written out byte by byte.
-use Rattle.std.specs.Int.{to_be_bytes, w32}
-use Rattle.std.proofs.Common.{◌≡◌, ℕ, pos, negsuc, List, [], ◌∷◌, ◌++◌, length, get_or, drop, Some, None, refl, ap, ◌∙◌, inl, inr, lit<, lit≤, append-nil, subst, arith}
-use Rattle.std.proofs.lemmas.Grind.{common_steps}
+use Rattle.std.proofs.Common.{◌≡◌, ℕ, pos, negsuc, List, [], ◌∷◌, ◌++◌, length, get_or, drop, Some, None, refl, ap, ◌∙◌, lit<, lit≤, append-nil, subst, arith}
 use Rattle.std.specs.Str.{IsUtf8}
 use lib.Utf8.{encode}
 use Rattle.pgw_wire.specs.Cell.{Cell}
 use Rattle.pgw_tree.specs.Tree.{Shape, Value, int4, text, nullable, null, number, string}
 use Rattle.pgw_tree.specs.Spells.{SpellsRow, canonical_cell}
-use Rattle.pgw_copy.specs.Format.{magic, IsHeader, IsCutHeader, IsField, IsRow, IsCutRow}
+use Rattle.pgw_copy.specs.Format.{IsHeader, IsField, IsRow}
 use Rattle.pgw_tree.specs.Stream.{IsFront, IsStream, IsWithin, default_limits}
 use Rattle.pgw_tree.specs.Canonical.{canonical_stream}
 
 -- a header with no flag and no extension
-abbrev plain : List ℕ
+abbrev pub plain : List ℕ
 plain = 80 ∷ 71 ∷ 67 ∷ 79 ∷ 80 ∷ 89 ∷ 10 ∷ 255 ∷ 13 ∷ 10 ∷ 0 ∷ 0 ∷ 0 ∷ 0 ∷ 0 ∷ 0 ∷ 0 ∷ 0 ∷ 0 ∷ []
 
-abbrev columns : List Shape
+abbrev pub columns : List Shape
 columns = int4 ∷ []
 
 -- the row of one value, 42
-abbrev values : List Value
+abbrev pub values : List Value
 values = number (pos 42) ∷ []
 
 -- the field of 42, a null field and a field of one byte
-abbrev field_42 : List ℕ
+abbrev pub field_42 : List ℕ
 field_42 = 0 ∷ 0 ∷ 0 ∷ 4 ∷ 0 ∷ 0 ∷ 0 ∷ 42 ∷ []
 
-abbrev field_null : List ℕ
+abbrev pub field_null : List ℕ
 field_null = 255 ∷ 255 ∷ 255 ∷ 255 ∷ []
 
 abbrev field_byte : List ℕ
@@ -42,10 +40,10 @@ cell_null = (4294967295, lit≤ tt, lit< tt, refl)
 pub cell_least : IsField None (128 ∷ 0 ∷ 0 ∷ 0 ∷ [])
 cell_least = (2147483648, lit≤ tt, lit< tt, refl)
 
-plain_is_header : IsHeader plain
+pub plain_is_header : IsHeader plain
 plain_is_header = record { fixed = plain; extension = []; begins = record { flags = 0; low = lit< tt; short = lit< tt; is = refl }; is = refl }
 
-spelled_42 : (cells : List Cell) → SpellsRow columns (Some (0 ∷ 0 ∷ 0 ∷ 42 ∷ []) ∷ cells) values
+pub spelled_42 : (cells : List Cell) → SpellsRow columns (Some (0 ∷ 0 ∷ 0 ∷ 42 ∷ []) ∷ cells) values
 spelled_42 cells = (record { n = pos 42; fits = record { sfits = lit< tt }; bytes = refl; is = refl }, tt)
 
 -- A header and the end are a stream of no rows, and the canonical one.
@@ -55,15 +53,16 @@ empty_stream = record { front = plain; begins = record { header = plain; body = 
 pub empty_canonical : canonical_stream columns [] ≡ plain ++ 255 ∷ 255 ∷ []
 empty_canonical = refl
 
--- A row of one field of four bytes is one value, and so the canonical stream writes it.
-pub row_stream : IsStream columns (plain ++ 0 ∷ 1 ∷ 0 ∷ 0 ∷ 0 ∷ 4 ∷ 0 ∷ 0 ∷ 0 ∷ 42 ∷ 255 ∷ 255 ∷ []) (values ∷ [])
-row_stream = record { front = plain ++ 0 ∷ 1 ∷ field_42; begins = front; is = refl }
-  where
-    row : IsRow (Some (0 ∷ 0 ∷ 0 ∷ 42 ∷ []) ∷ []) (0 ∷ 1 ∷ field_42)
-    row = record { fields = field_42; few = lit< tt; each = (field_42, [], cell_42, refl, refl); is = refl }
+-- A header and a row of one field of four bytes are the front of a stream of one value. With the end behind them they are
+-- a stream, and so the canonical stream writes it.
+row_42 : IsRow (Some (0 ∷ 0 ∷ 0 ∷ 42 ∷ []) ∷ []) (0 ∷ 1 ∷ field_42)
+row_42 = record { fields = field_42; few = lit< tt; each = (field_42, [], cell_42, refl, refl); is = refl }
 
-    front : IsFront columns (plain ++ 0 ∷ 1 ∷ field_42) (values ∷ [])
-    front = record { header = plain; body = 0 ∷ 1 ∷ field_42; begins = plain_is_header; each = (_, _, [], row, spelled_42 [], refl, refl); is = refl }
+pub front_42 : IsFront columns (plain ++ 0 ∷ 1 ∷ field_42) (values ∷ [])
+front_42 = record { header = plain; body = 0 ∷ 1 ∷ field_42; begins = plain_is_header; each = (_, _, [], row_42, spelled_42 [], refl, refl); is = refl }
+
+pub row_stream : IsStream columns (plain ++ 0 ∷ 1 ∷ 0 ∷ 0 ∷ 0 ∷ 4 ∷ 0 ∷ 0 ∷ 0 ∷ 42 ∷ 255 ∷ 255 ∷ []) (values ∷ [])
+row_stream = record { front = plain ++ 0 ∷ 1 ∷ field_42; begins = front_42; is = refl }
 
 pub row_canonical : canonical_stream columns (values ∷ []) ≡ plain ++ 0 ∷ 1 ∷ 0 ∷ 0 ∷ 0 ∷ 4 ∷ 0 ∷ 0 ∷ 0 ∷ 42 ∷ 255 ∷ 255 ∷ []
 row_canonical = refl
@@ -88,25 +87,9 @@ none_within = record { few = lit≤ tt; fit = tt }
 pub one_within : IsWithin default_limits columns (values ∷ [])
 one_within = record { few = lit≤ tt; fit = ((lit≤ tt, tt), tt) }
 
--- A low flag and an extension are allowed.
-pub extended_header : IsHeader (magic ++ 0 ∷ 0 ∷ 0 ∷ 1 ∷ 0 ∷ 0 ∷ 0 ∷ 5 ∷ 1 ∷ 2 ∷ 3 ∷ 4 ∷ 5 ∷ [])
-extended_header = record { fixed = magic ++ 0 ∷ 0 ∷ 0 ∷ 1 ∷ 0 ∷ 0 ∷ 0 ∷ 5 ∷ []; extension = 1 ∷ 2 ∷ 3 ∷ 4 ∷ 5 ∷ []; begins = record { flags = 1; low = lit< tt; short = lit< tt; is = refl }; is = refl }
-
--- A flag in the high half is not.
-pub high_flag : (rest : List ℕ) → IsHeader (magic ++ 0 ∷ 1 ∷ 0 ∷ 0 ∷ rest) → ⊥
-high_flag rest h = omega (arith, ap (λ l. get_or l 12 0) (h.is ∙ ap (λ f. f ++ h.extension) h.begins.is), h.begins.low)
-
--- An extension has no negative length.
-pub negative_extension : (rest : List ℕ) → IsHeader (magic ++ 0 ∷ 0 ∷ 0 ∷ 0 ∷ 255 ∷ 255 ∷ 255 ∷ 255 ∷ rest) → ⊥
-negative_extension rest h = omega (arith, ap (λ l. get_or l 15 0) (h.is ∙ ap (λ f. f ++ h.extension) h.begins.is), h.begins.short)
-
 -- -1 is written in two's complement.
 pub minus_one : canonical_cell int4 (number (negsuc 0)) ≡ Some (255 ∷ 255 ∷ 255 ∷ 255 ∷ [])
 minus_one = refl
-
--- Whatever 18 bytes they are, a header was cut there.
-pub cut_header : (bytes : List ℕ) → length bytes ≡ 18 → IsCutHeader bytes
-cut_header bytes e = inl (omega arith)
 
 -- A row whose count is 1 is that and the field of one cell.
 one_count : (rest behind row : List ℕ) (cells : List Cell) → IsRow cells row → 0 ∷ 1 ∷ rest ≡ row ++ behind → length cells ≡ 1
@@ -136,21 +119,6 @@ null_spells_none cells vs row spelled =
     none None field (v ∷ vs) f e h = absurd (cc)
     none (Some p) field (v ∷ vs) (short, is) e h = omega (arith, ap (λ l. get_or l 0 0) (e ∙ ap (λ f. f ++ []) is), short)
 
--- A row that ends inside its field was cut there.
-abbrev short_field : List ℕ
-short_field = 0 ∷ 0 ∷ 0 ∷ 4 ∷ 0 ∷ 0 ∷ 0 ∷ []
-
-pub cut_row : IsCutRow (0 ∷ 1 ∷ short_field)
-cut_row = inr (1, short_field, lit< tt, refl, λ cells row behind h e. let one = one_field short_field behind row cells h e in none one.0 one.1 behind one.3 one.4)
-  where
-    none : (c : Cell) (field behind : List ℕ) → IsField c field → short_field ≡ field ++ behind → ⊥
-    none None field behind (n, low, high, is) e = omega (arith, ap (λ l. get_or l 0 0) (e ∙ ap (λ f. f ++ behind) is), low, high)
-    none (Some p) field behind (short, is) e =
-        let all = e ∙ ap (λ f. f ++ behind) is in
-        let byte = λ (i : ℕ). ap (λ l. get_or l i 0) all in
-        let many : 7 ≡ length (to_be_bytes w32 (length p) ++ (p ++ behind)) = ap length all in
-        grind (arith, common_steps, byte 0, byte 1, byte 2, byte 3, many, short)
-
 -- A null where a column allows one, by any negative length, and a text: the canonical stream writes -1 for the null.
 abbrev wide_columns : List Shape
 wide_columns = nullable int4 ∷ nullable text ∷ text ∷ []
@@ -161,7 +129,7 @@ wide_values = null ∷ null ∷ string (195 ∷ 169 ∷ []) ∷ []
 abbrev text_field : List ℕ
 text_field = 0 ∷ 0 ∷ 0 ∷ 2 ∷ 195 ∷ 169 ∷ []
 
-letter_e_acute : IsUtf8 (195 ∷ 169 ∷ [])
+pub letter_e_acute : IsUtf8 (195 ∷ 169 ∷ [])
 unfolding encode
 letter_e_acute = (233 ∷ [], (refl, refl))
 
