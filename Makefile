@@ -1,0 +1,30 @@
+# Short names for the project's commands, and installing the program.
+
+PREFIX = /usr/local
+program = crates/pgcopy/out/pgcopy
+bin = $(DESTDIR)$(PREFIX)/bin
+man1 = $(DESTDIR)$(PREFIX)/share/man/man1
+
+.PHONY: build test bench postgres-test install uninstall
+
+build: $(program)
+
+# The wrapper builds a program that isn't there.
+$(program):
+	./pgcopy copy int4 < examples/answer.pgcopy > /dev/null
+
+test:
+	rt ci
+
+bench:
+	bench/run
+
+postgres-test:
+	tests/postgres/run
+
+install: $(program)
+	install -D -m 755 $(program) "$(bin)/pgcopy"
+	install -D -m 644 docs/pgcopy.1 "$(man1)/pgcopy.1"
+
+uninstall:
+	rm -f "$(bin)/pgcopy" "$(man1)/pgcopy.1"
