@@ -87,8 +87,8 @@ pub fn words<R: Env + AllocGlobal>(rt: &R) -> io::Result<Vec<String>> {
     Ok(arguments.collect(rt.alloc())?)
 }
 
-/// Runs on `input` and `output`, with the line on `errors`. The error is `OutOfMemory`, and comes only before anything
-/// is read or written.
+/// Runs on `input` and `output`, with the line on `errors`. The error is `OutOfMemory`: memory for the buffers around them
+/// was refused, before the run.
 ///
 /// Both outputs are flushed whatever the run ended with. A flush that fails then changes nothing more: where a stream
 /// was copied, the flush of the output was part of that.

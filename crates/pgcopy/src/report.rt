@@ -19,7 +19,7 @@ pub enum Status {
     Copied,
     /// Something is wrong with the words.
     Words,
-    /// What was read is no stream of the columns that the words name.
+    /// What was read is no stream, within the limits, of the columns that the words name.
     Refused,
     /// The source or the sink failed.
     Outside,
@@ -75,6 +75,7 @@ pub enum Outcome {
 }
 
 impl Outcome {
+    /// The status that it ends with.
     pub fn status(self) -> Status
         ensures { result ≡ status_of self }
     {

@@ -1,10 +1,8 @@
-ghost use Rattle.std.specs.Prelude.{◌≡◌, ◌≢◌, ◌≤◌, ◌↔◌, ◌⊎◌, ⊤, ℕ, List, true, option_map, IfOk, IfErr, IsErr, IsOkAnd};
+ghost use Rattle.std.specs.Prelude.{◌≡◌, ◌≢◌, ◌≤◌, ◌↔◌, ◌⊎◌, ⊤, ℕ, true, option_map, IfOk, IfErr, IsErr, IsOkAnd};
 ghost use Rattle.std.specs.Io.KnownBytes.{Appends, IsAtEnd};
 ghost use Rattle.pgw_wire.specs.Outside.{HasFailed, Took, HasFront, HasNoFront, Gains, Wrote};
-ghost use Rattle.pgw_tree.specs.Tree.{Value};
-ghost use Rattle.pgw_tree.specs.Canonical.{canonical_stream};
-ghost use Rattle.pgw_tree.specs.Causes.{fault_says};
-ghost use Rattle.pgw_tree.specs.Stream.{IsStream, IsStreamOf, IsValidStream};
+ghost use Rattle.pgw_tree.specs.Causes.{IsCopied, fault_says};
+ghost use Rattle.pgw_tree.specs.Stream.{IsValidStream};
 ghost use Rattle.pgcopy.specs.Words.{plan_of};
 ghost use Rattle.pgcopy.specs.Report.{line_of, fault_status, status_of, GainsUnlessFailed};
 
@@ -28,12 +26,8 @@ fn execute<S: Source, K: Sink>(
 
     ensures copied { status_of result ≡ Status.Copied
         → IsOkAnd (plan_of words.now) (λ plan. (n : ℕ) × (result ≡ Outcome.Copied n)
-        × Took (S.left source.old) (S.left source.new) (IsStreamOf plan.limits plan.columns n)) }
-    ensures canonical { status_of result ≡ Status.Copied
-        → IsOkAnd (plan_of words.now) (λ plan.
-        Took (S.left source.old) (S.left source.new) (λ taken. (rows : List (List Value))
-        → IsStream plan.columns taken rows
-        → Appends (K.gained sink.old) (K.gained sink.new) (canonical_stream plan.columns rows))) }
+        × Took (S.left source.old) (S.left source.new)
+        (IsCopied plan.limits plan.columns n (Appends (K.gained sink.old) (K.gained sink.new)))) }
     ensures settled { status_of result ≡ Status.Copied
         → K.settled sink.new ≡ option_map (λ _. true) (K.settled sink.old) }
     ensures fault { status_of result ≢ Status.Copied → status_of result ≢ Status.Words
@@ -84,21 +78,21 @@ fn execute<S: Source, K: Sink>(
 /// |---|---|---|
 /// | `Copied` | the source began with a whole stream, and the sink has its canonical form | `rows` and their number |
 /// | `Words` | something is wrong with the words; nothing was read or written | `word`, its place and what is wrong |
-/// | `Refused` | the source does not begin as a stream does, or its extension has a negative length | `bad header` |
+/// | `Refused` | the first 19 bytes do not begin as a stream does, or state, behind good flags, a negative length of the extension | `bad header` |
 /// | `Refused` | a bit of the high half of the header's flags is set | `bad flags` and their eight digits |
 /// | `Refused` | the source ended inside the stream | `truncated` |
 /// | `Refused` | the count of a row is below -1 | `bad field count` and the count |
 /// | `Refused` | a row has fewer fields than there are columns | `row`, its number, and `too few fields` |
 /// | `Refused` | a field spells no value of its column | `row`, `column`, and what is wrong |
 /// | `Refused` | a value is longer than the limit | `row`, `column`, and `too long` |
-/// | `Refused` | there are more rows than the limit | `row limit` |
+/// | `Refused` | as many rows as the limit were copied, and the count of another one is there | `row limit` |
 /// | `Outside` | the source or the sink failed | `read fault` or `write fault` |
 /// | `UnknownType` | does not come yet | |
 /// | `NoMemory` | memory was asked for and refused | `out of memory` |
 ///
 /// Rows and columns are counted from 0. A fault of the header comes before anything is written; behind the header the
-/// sink has the canonical form of all rows before the fault, and where it failed itself, that without the end of what
-/// was written last.
+/// sink has the canonical form of all rows before the fault. Where the sink failed itself, the end of what was written last
+/// may be missing.
 ///
 /// The line takes no memory. Where `notes` fails the status stays, and a front of the line is there.
 pub fn run<S: Source, K: Sink, N: Sink>(
@@ -120,12 +114,8 @@ pub fn run<S: Source, K: Sink, N: Sink>(
     ensures copied { result ≡ Status.Copied
         → IsOkAnd (plan_of words.now) (λ plan. (n : ℕ)
         × GainsUnlessFailed N.gained N.fault_count notes.old notes.new (line_of (Outcome.Copied n))
-        × Took (S.left source.old) (S.left source.new) (IsStreamOf plan.limits plan.columns n)) }
-    ensures canonical { result ≡ Status.Copied
-        → IsOkAnd (plan_of words.now) (λ plan.
-        Took (S.left source.old) (S.left source.new) (λ taken. (rows : List (List Value))
-        → IsStream plan.columns taken rows
-        → Appends (K.gained sink.old) (K.gained sink.new) (canonical_stream plan.columns rows))) }
+        × Took (S.left source.old) (S.left source.new)
+        (IsCopied plan.limits plan.columns n (Appends (K.gained sink.old) (K.gained sink.new)))) }
     ensures settled { result ≡ Status.Copied → K.settled sink.new ≡ option_map (λ _. true) (K.settled sink.old) }
 
     // Each other status is that of a fault, which its line tells, and which says what was taken and what was written.

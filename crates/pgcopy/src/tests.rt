@@ -102,10 +102,13 @@ fn streams_are_copied(rt: HostRuntime) {
         b"PGCOPY\n\xff\r\n\0\0\0\0\0\0\0\0\0\0\x02\xff\xff\xff\xff\0\0\0\x04\0\0\0\x07\xff\xff";
     let other_nulls: &[u8] =
         b"PGCOPY\n\xff\r\n\0\0\0\0\0\0\0\0\0\0\x02\xff\xff\xff\xfe\0\0\0\x04\0\0\0\x07\xff\xff";
+    let extended: &[u8] =
+        b"PGCOPY\n\xff\r\n\0\0\0\0\x01\0\0\0\x05extra\0\x01\0\0\0\x04\0\0\0\x2a\xff\xff";
     let texts: &[u8] =
         b"PGCOPY\n\xff\r\n\0\0\0\0\0\0\0\0\0\0\x02\0\0\0\x02\xc3\xa9\0\0\0\0\0\x02\0\0\0\x01a\xff\xff\xff\xff\xff\xff";
-    let table: [(&[&str], &[u8], &[u8], &[u8], usize); 10] = [
+    let table: [(&[&str], &[u8], &[u8], &[u8], usize); 11] = [
         (&["copy", "int4"], EMPTY, EMPTY, b"rows 0\n", 21),
+        (&["copy", "int4"], extended, ONE_ROW, b"rows 1\n", 36),
         (&["copy", "int4"], ONE_ROW, ONE_ROW, b"rows 1\n", 31),
         (&["copy", "int4"], surplus, ONE_ROW, b"rows 1\n", 40),
         (&["copy", "int4"], behind, ONE_ROW, b"rows 1\n", 31),

@@ -191,3 +191,13 @@ cut_of_row n (BadFieldCount c) x y count h = absurd h
 cut_of_row n ReadFault x y count h = cut_row n x y count h
 cut_of_row n NoMemory x y count (inl cut) = inl (cut_row n x y count cut)
 cut_of_row n NoMemory x y count (inr whole) = inr (whole.0, row_of n whole.0 x y count whole.1 whole.2)
+
+-- What was filled is appended.
+pub takes_appended : {a b : Option (List ℕ)} {F : Type 0} {r : Result (Unit {0}) CopyReadError} (old new buf : List ℕ) (next : ℕ) → length buf ≡ next → new ≡ old ++ buf
+    → Takes a b F r (λ _ taken. taken ≡ buf) (cut_fault (IsShort next)) → Takes a b F r (λ _ taken. (length taken ≡ next) × (new ≡ old ++ taken)) (kept_fault (IsShort next) (HasSize next))
+takes_appended old new buf next long is t = record {
+  ok = λ x h. took_weaker (t.ok x h) (λ taken e. (ap length e ∙ long, is ∙ ap (λ l. old ++ l) (sym e)));
+  err = λ e h. took_weaker (t.err e h) (λ taken. kept_of_cut (IsShort next) (IsShort next) (HasSize next) e taken taken (λ s. s));
+  at_end = t.at_end;
+  has_failed = t.has_failed;
+}

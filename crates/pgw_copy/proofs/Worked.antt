@@ -1,5 +1,7 @@
 -- What the definitions say of headers, counts, fields and rows that are written out byte by byte.
-use Rattle.std.proofs.Common.{◌≡◌, ℕ, ℤ, negsuc, List, [], ◌∷◌, ◌++◌, length, get_or, Some, None, refl, ap, ◌∙◌, inl, inr, lit<, lit≤, arith}
+use Rattle.std.proofs.Common.{◌≡◌, ℕ, ℤ, pos, negsuc, List, [], ◌∷◌, ◌++◌, length, get_or, Some, None, refl, ap, ◌∙◌, inl, inr, lit<, lit≤, arith, sym, subst}
+use Rattle.std.specs.Int.{cast_signed, w16}
+use Rattle.pgw_copy.proofs.Numbers.{same_number_2}
 use Rattle.pgw_copy.specs.Format.{magic, IsFixedHeader, IsHeader, IsCutHeader, IsField, AreFields, IsRow, IsCutRow}
 use Rattle.pgw_copy.specs.Reader.{IsBadHeader, HasNegativeExtension, HasHighFlags, IsBadCount, AreWholeFields, IsWholeRow, IsCutField, AreCutFields}
 use Rattle.pgw_copy.proofs.Fields.{short_field, short_piece, cut_fields}
@@ -59,10 +61,19 @@ bad_magic = (refl, inl (λ rest e. omega (arith, ap (λ l. get_or l 10 0) e)))
 
 -- FFFE is the count -2 and 8000 is -32768. Neither -1, which ends a stream, nor 0 is a bad count.
 pub minus_two : IsBadCount (negsuc 1) (255 ∷ 254 ∷ [])
-minus_two = record { negative = lit≤ tt; below = lit< tt; is = refl }
+minus_two = record { unsigned = 65534; negative = lit≤ tt; below = lit< tt; signed = refl; is = refl }
 
 pub least_count : IsBadCount (negsuc 32767) (128 ∷ 0 ∷ [])
-least_count = record { negative = lit≤ tt; below = lit< tt; is = refl }
+least_count = record { unsigned = 32768; negative = lit≤ tt; below = lit< tt; signed = refl; is = refl }
+
+-- and no positive number is one, though without a sign its bytes are those of -2
+pub positive_count : IsBadCount (pos 65534) (255 ∷ 254 ∷ []) → ⊥
+positive_count h =
+    let same : 65534 ≡ h.unsigned = same_number_2 65534 h.unsigned (lit< tt) (omega (arith, h.below)) h.is in
+    no_sign (subst (λ (n : ℕ). pos 65534 ≡ cast_signed w16 n) (sym same) h.signed)
+  where
+    no_sign : pos 65534 ≡ negsuc 1 → ⊥
+    no_sign e = absurd (cc)
 
 pub minus_one : (count : ℤ) → IsBadCount count (255 ∷ 255 ∷ []) → ⊥
 minus_one count h = omega (arith, ap (λ l. get_or l 0 0) h.is, ap (λ l. get_or l 1 0) h.is, h.below)

@@ -1,6 +1,6 @@
 -- What a call that reads a part of a stream takes, and what each of its errors says of the bytes that were taken.
 use Rattle.std.specs.Prelude.{◌≡◌, ◌⊎◌, ℕ, ℤ, ◌<◌, ◌≤◌, ◌-◌, ◌^◌, List, ◌++◌, length, Option, None, Some, Result, Ok, Err}
-use Rattle.std.specs.Int.{to_be_bytes, cast_unsigned, w16, w32}
+use Rattle.std.specs.Int.{to_be_bytes, cast_signed, w16, w32}
 use Rattle.std.specs.Io.KnownBytes.{IsAtEnd}
 use Rattle.pgw_wire.specs.Cell.{Cell}
 use Rattle.pgw_wire.specs.Outside.{Took}
@@ -50,7 +50,7 @@ pub record HasNegativeExtension (bytes : List ℕ) : Type 0 where
   pub fits : extension < 2 ^ 32
   pub is : bytes ≡ magic ++ to_be_bytes w32 flags ++ to_be_bytes w32 extension
 
--- 19 bytes that begin with other bytes than a stream, or state such a length
+-- 19 bytes that begin with other bytes than a stream, or have a negative length of the extension
 abbrev pub IsBadHeader : List ℕ → Type 0
 IsBadHeader bytes = (length bytes ≡ 19) × (((rest : List ℕ) → bytes ≡ magic ++ rest → ⊥) ⊎ HasNegativeExtension bytes)
 
@@ -79,11 +79,14 @@ fixed_fault (BadFieldCount count) bytes = ⊥
 fixed_fault ReadFault bytes = ⊥
 fixed_fault NoMemory bytes = ⊥
 
--- the two bytes of a count below -1: without its sign it is from 2 ^ 15 on, and not the largest
+-- The two bytes of a count below -1: of a number without sign from 2 ^ 15 on, but for the largest, which with its sign is
+-- the count.
 pub record IsBadCount (count : ℤ) (bytes : List ℕ) : Type 0 where
-  pub negative : 2 ^ 15 ≤ cast_unsigned w16 count
-  pub below : cast_unsigned w16 count < 2 ^ 16 - 1
-  pub is : bytes ≡ to_be_bytes w16 (cast_unsigned w16 count)
+  pub unsigned : ℕ
+  pub negative : 2 ^ 15 ≤ unsigned
+  pub below : unsigned < 2 ^ 16 - 1
+  pub signed : count ≡ cast_signed w16 unsigned
+  pub is : bytes ≡ to_be_bytes w16 unsigned
 
 abbrev pub count_fault : CopyReadError → List ℕ → Type 0
 count_fault BadHeader bytes = ⊥

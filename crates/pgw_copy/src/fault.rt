@@ -7,8 +7,8 @@ use thiserror::Error;
 /// Why a stream could not be read on.
 #[derive(Clone, Copy, Debug, PartialEq, Eq, Error)]
 pub enum CopyReadError {
-    /// The source does not begin with the bytes that every stream begins with, or the length of the header's extension
-    /// is negative.
+    /// The first 19 bytes do not begin with those that every stream begins with, or state, behind good flags, a negative
+    /// length of the header's extension.
     #[error("bad header")]
     BadHeader,
     /// A bit of the high half of the header's flags, which are these, is set.

@@ -3,6 +3,7 @@
 
 mod fault;
 mod header;
+mod pieces;
 mod reader;
 mod row;
 mod source;

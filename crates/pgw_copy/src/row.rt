@@ -7,8 +7,9 @@ ghost use Rattle.pgw_copy.specs.Format.{IsField, AreFields};
 ghost use Rattle.pgw_copy.specs.Reader.{Takes, kept_fault, IsShort, HasSize, IsCutField, IsWholeField, AreCutFields, AreWholeFields};
 
 use crate::CopyReadError;
-use crate::source::{take_bytes, take_length};
-use pgw_wire::{ByteBuffer, RawCell, Source};
+use crate::pieces::Pieces;
+use crate::source::take_length;
+use pgw_wire::{RawCell, Source};
 use std::alloc::Global;
 use std::marker::Model;
 
@@ -47,7 +48,7 @@ impl RawRow<'_> {
 /// The row that a reader keeps: the bytes of its pieces, and where each cell lies among them. Contracts see its cells.
 #[derive(Drop)]
 pub(crate) struct RowBuffer {
-    bytes: ByteBuffer,
+    bytes: Pieces,
     places: Vec<Place>,
 }
 
@@ -60,9 +61,9 @@ impl Model for RowBuffer {
 
     ghost coded = { cells_code };
 
-    ghost view = { λ r. cells_at r.bytes.bytes r.places.items };
+    ghost view = { λ r. cells_at r.bytes r.places.items };
 
-    ghost invariant = { λ r. AllLieIn (length r.bytes.bytes) r.places.items };
+    ghost invariant = { λ r. AllLieIn (length r.bytes) r.places.items };
 }
 
 impl RowBuffer {
@@ -71,7 +72,7 @@ impl RowBuffer {
         ensures { result ≡ [] }
     {
         RowBuffer {
-            bytes: ByteBuffer::new(alloc),
+            bytes: Pieces::new(alloc),
             places: Vec::new(alloc),
         }
     }
@@ -96,7 +97,7 @@ impl RowBuffer {
         ensures origin { S.origin source.new ≡ S.origin source.old }
     {
         let start = self.bytes.len();
-        take_bytes(source, len, &mut self.bytes)?;
+        self.bytes.take(source, len)?;
         let end = self.bytes.len();
         self.places.push(Place::Piece { start, end })?;
         Ok(())
@@ -157,9 +158,7 @@ impl RowBuffer {
     {
         match self.places.get(place)? {
             Place::Null => Some(RawCell::Null),
-            Place::Piece { start, end } => {
-                Some(RawCell::Piece(&self.bytes.as_bytes()[*start..*end]))
-            }
+            Place::Piece { start, end } => Some(RawCell::Piece(self.bytes.piece(*start, *end))),
         }
     }
 }

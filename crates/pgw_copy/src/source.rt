@@ -1,15 +1,16 @@
-ghost use Rattle.std.specs.Prelude.{◌≡◌, ◌≢◌, IfErr, ◌+◌, ◌^◌, ◌<◌, ◌≤◌, ◌++◌, length, List, ℕ, OnOk};
+ghost use Rattle.std.specs.Prelude.{◌≡◌, ◌^◌, ◌<◌, ◌≤◌, length};
 ghost use Rattle.std.specs.Int.{to_be_bytes, w32};
 ghost use Rattle.pgw_wire.specs.Outside.{HasFailed};
-ghost use Rattle.pgw_copy.specs.Reader.{Takes, cut_fault, kept_fault, IsShort, HasSize};
+ghost use Rattle.pgw_copy.specs.Reader.{Takes, cut_fault, IsShort};
 
 use crate::CopyReadError;
-use pgw_wire::{ByteBuffer, Source, take_u32};
+use pgw_wire::{Source, take_u32};
 
-/// How many bytes are taken at once where they are many.
+/// How many bytes are passed over at once where they are many.
 const CHUNK: usize = 512;
 
 /// Fills the buffer with the next bytes of the source.
+#[inline(always)]
 pub(crate) fn fill<S: Source>(source: &mut S, buf: &mut [u8]) -> Result<(), CopyReadError>
     ensures takes { Takes (S.left source.old) (S.left source.new)
         (HasFailed (S.fault_count source.old) (S.fault_count source.new))
@@ -42,34 +43,6 @@ pub(crate) fn pass_over<S: Source>(source: &mut S, len: usize) -> Result<(), Cop
     while left > 0 {
         let next = left.min(CHUNK);
         fill(source, &mut chunk[..next])?;
-        left -= next;
-    }
-    Ok(())
-}
-
-/// Takes the next `len` bytes, and appends them as they come.
-pub(crate) fn take_bytes<S: Source>(
-    source: &mut S,
-    len: usize,
-    bytes: &mut ByteBuffer,
-) -> Result<(), CopyReadError>
-    ensures takes { Takes (S.left source.old) (S.left source.new)
-        (HasFailed (S.fault_count source.old) (S.fault_count source.new))
-        result
-        (λ _ taken. (length taken ≡ len) × (bytes.new.bytes ≡ bytes.old.bytes ++ taken))
-        (kept_fault (IsShort len) (HasSize len)) }
-    ensures kept { length bytes.old.bytes ≤ length bytes.new.bytes }
-    ensures grown { OnOk result (length bytes.new.bytes ≡ length bytes.old.bytes + len) }
-    ensures faults { S.fault_count source.old ≤ S.fault_count source.new }
-    ensures origin { S.origin source.new ≡ S.origin source.old }
-{
-    let mut chunk = [0; CHUNK];
-    let chunk = &mut chunk[..];
-    let mut left = len;
-    while left > 0 {
-        let next = left.min(CHUNK);
-        fill(source, &mut chunk[..next])?;
-        bytes.push_all(&chunk[..next])?;
         left -= next;
     }
     Ok(())

@@ -78,7 +78,7 @@ impl CopyWriter {
     }
 
     /// Drops what the buffer has and puts the row's count of columns there, two bytes, big-endian. The one error is a
-    /// refusal of memory, and behind it the buffer is empty.
+    /// refusal of memory, and behind it the buffer is as before.
     pub fn begin_row(&mut self, columns: u16) -> Result<(), NoMemory>
         requires few { columns ≤ 32767 }
         ensures ok { OnOk result (self.new.bytes ≡ to_be_bytes w16 columns) }

@@ -1,7 +1,7 @@
 -- Where a fault says what it says, no front of the bytes is a stream within the limits.
 use Rattle.std.proofs.Common.{◌≡◌, ℕ, ℤ, ◌+◌, ◌<◌, ◌≤◌, List, [], ◌∷◌, ◌++◌, length, Option, None, Some, refl, sym, ap, ◌∙◌, arith, append_assoc, append-nil, length-append, lit<, subst, inl, inr, ◌⊎◌}
 use Rattle.std.specs.List.{AllByRecursion}
-use Rattle.std.specs.Int.{to_be_bytes, cast_unsigned, w16, w32}
+use Rattle.std.specs.Int.{to_be_bytes, w16, w32}
 use Rattle.pgw_wire.specs.Cell.{Cell}
 use Rattle.pgw_wire.specs.declared.kind.Break.{Break}
 use Rattle.pgw_copy.specs.Format.{magic, IsFixedHeader, IsHeader, IsCutHeader, IsCount, IsRow, IsCutRow, trailer}
@@ -126,11 +126,11 @@ cut_goes limits ts before bytes (inr cut) (inr f) = cut.4 f.cells f.row f.rest f
 -- No count below -1 is the end, or in front of a row.
 bad_count_goes : (limits : Limits) (ts : List Shape) (before : ℕ) (count : ℤ) (bytes rest : List ℕ) → IsBadCount count bytes → Goes limits ts before (bytes ++ rest) → ⊥
 bad_count_goes limits ts before count bytes rest bad (inl end) =
-    let n = cast_unsigned w16 count in
+    let n = bad.unsigned in
     let same = same_front (to_be_bytes w16 n) trailer rest end.0 refl (ap (λ l. l ++ rest) (sym bad.is) ∙ end.1) in
     absurd (omega (arith, bad.below, same_number_2 n 65535 (omega (arith, bad.below)) (lit< tt) same))
 bad_count_goes limits ts before count bytes rest bad (inr f) =
-    let n = cast_unsigned w16 count in
+    let n = bad.unsigned in
     let same = same_front (to_be_bytes w16 n) (to_be_bytes w16 (length f.cells)) rest (f.is_row.fields ++ f.rest) refl (ap (λ l. l ++ rest) (sym bad.is) ∙ f.is ∙ row_parts f.cells f.row f.rest f.is_row) in
     absurd (omega (arith, bad.negative, f.is_row.few, same_number_2 n (length f.cells) (omega (arith, bad.below)) (omega (arith, f.is_row.few)) same))
 

@@ -101,13 +101,13 @@ stopped = record {
 
 -- A sink that failed behind the first three bytes of the header, inside the row, and behind one byte of the end.
 pub part_of_header : Unwritten default_limits columns (λ written. written ≡ 80 ∷ 71 ∷ 67 ∷ []) plain
-part_of_header = in_header plain_is_header (record { part = 80 ∷ 71 ∷ 67 ∷ []; rest = _; is = refl; written = refl })
+part_of_header = in_header plain_is_header (record { front = 80 ∷ 71 ∷ 67 ∷ []; rest = _; is = refl; written = refl })
 
 pub part_of_row : Unwritten default_limits columns (λ written. written ≡ plain ++ 0 ∷ 1 ∷ 0 ∷ []) (plain ++ 0 ∷ 1 ∷ field_42)
-part_of_row = in_row [] values front_42 one_within (record { part = 0 ∷ 1 ∷ 0 ∷ []; rest = 0 ∷ 0 ∷ 4 ∷ 0 ∷ 0 ∷ 0 ∷ 42 ∷ []; is = refl; written = refl })
+part_of_row = in_row [] values front_42 one_within (record { front = 0 ∷ 1 ∷ 0 ∷ []; rest = 0 ∷ 0 ∷ 4 ∷ 0 ∷ 0 ∷ 0 ∷ 42 ∷ []; is = refl; written = refl })
 
 pub part_of_end : Unwritten default_limits columns (λ written. written ≡ plain ++ 0 ∷ 1 ∷ field_42 ++ 255 ∷ []) (plain ++ 0 ∷ 1 ∷ field_42 ++ 255 ∷ 255 ∷ [])
-part_of_end = in_end (values ∷ []) (plain ++ 0 ∷ 1 ∷ field_42) front_42 one_within refl (record { part = 255 ∷ []; rest = 255 ∷ []; is = refl; written = refl })
+part_of_end = in_end (values ∷ []) (plain ++ 0 ∷ 1 ∷ field_42) front_42 one_within refl (record { front = 255 ∷ []; rest = 255 ∷ []; is = refl; written = refl })
 
 -- That is what a write fault says.
 pub write_fault : fault_says default_limits columns WriteFault (λ written. written ≡ plain ++ 0 ∷ 1 ∷ 0 ∷ []) (plain ++ 0 ∷ 1 ∷ field_42)

@@ -1,4 +1,4 @@
--- What each fault of a copy says of the bytes that were taken, and of those that were written.
+-- What each answer of a copy says of the bytes that were taken, and of those that were written.
 use Rattle.std.specs.Prelude.{◌≡◌, ◌⊎◌, ℕ, ◌<◌, ◌≤◌, List, [], ◌∷◌, ◌++◌, length, Some}
 use Rattle.pgw_wire.specs.Cell.{Cell}
 use Rattle.pgw_copy.specs.Format.{IsHeader, IsCutHeader, IsCount, IsRow, IsCutRow, canonical_header, trailer}
@@ -6,11 +6,17 @@ use Rattle.pgw_copy.specs.Reader.{IsBadHeader, HasHighFlags, IsBadCount, IsWhole
 use Rattle.pgw_tree.specs.declared.fault.CopyFault.{CopyFault}
 use Rattle.pgw_tree.specs.declared.fault.CopyFault.TheVariants.{BadHeader, BadFlags, Truncated, BadFieldCount, UnexpectedEndOfRow, BadValue, TooLong, RowLimit, ReadFault, WriteFault, NoMemory}
 use Rattle.pgw_tree.specs.Tree.{Shape, Value}
-use Rattle.pgw_tree.specs.Canonical.{canonical_row, canonical_front}
+use Rattle.pgw_tree.specs.Canonical.{canonical_row, canonical_front, canonical_stream}
 use Rattle.pgw_tree.specs.Columns.{BreaksAt, IsLongAt}
-use Rattle.pgw_tree.specs.Stream.{Limits, IsFront, IsWithin}
+use Rattle.pgw_tree.specs.Stream.{Limits, IsFront, IsWithin, IsStream, IsStreamOf}
 
--- the row at this place, of those that may be copied
+-- So many rows were copied: the bytes taken are a stream of them within the limits, and the canonical stream of any rows
+-- that these bytes spell was written.
+pub record IsCopied (limits : Limits) (columns : List Shape) (n : ℕ) (Written : List ℕ → Type 0) (taken : List ℕ) : Type 0 where
+  pub stream : IsStreamOf limits columns n taken
+  pub canonical : (rows : List (List Value)) → IsStream columns taken rows → Written (canonical_stream columns rows)
+
+-- behind so many rows, the row at this place, which is one of those that may be copied
 pub record IsRowAt (limits : Limits) (before row : ℕ) (cells : List Cell) (bytes : List ℕ) : Type 0 where
   pub place : before ≡ row
   pub allowed : row < limits.rows_max
@@ -45,14 +51,14 @@ pub record Stopped (limits : Limits) (columns : List Shape) (fault : CopyFault) 
   pub cause : row_cause limits columns (length rows) fault behind
   pub written : Written (canonical_front columns rows)
 
--- This much was written, and then a part of what comes next.
+-- This much was written, and then a front of what comes next, all of it where the sink failed to settle it.
 pub record PartWritten (must next : List ℕ) (Written : List ℕ → Type 0) : Type 0 where
-  pub part : List ℕ
+  pub front : List ℕ
   pub rest : List ℕ
-  pub is : next ≡ part ++ rest
-  pub written : Written (must ++ part)
+  pub is : next ≡ front ++ rest
+  pub written : Written (must ++ front)
 
--- The sink failed: in the header behind which nothing was read, in the last of the rows that were read, or in the end.
+-- The sink failed: in the header, behind which nothing was read; in the last of the rows that were read; or in the end.
 pub data Unwritten (limits : Limits) (columns : List Shape) (Written : List ℕ → Type 0) (taken : List ℕ) : Type 0 where
   in_header : IsHeader taken → PartWritten [] canonical_header Written → Unwritten limits columns Written taken
   in_row : (rows : List (List Value)) (last : List Value) → IsFront columns taken (rows ++ (last ∷ [])) → IsWithin limits columns (rows ++ (last ∷ [])) → PartWritten (canonical_front columns rows) (canonical_row columns last) Written → Unwritten limits columns Written taken
@@ -73,8 +79,8 @@ header_cause WriteFault bytes = ⊥
 header_cause NoMemory bytes = bytes ≡ []
 
 -- What a fault says of all bytes that were taken, and of those that were written. A fault of the header comes before
--- anything is written. Behind it the canonical form of the rows before was written; where the sink failed itself, that but
--- for the end of what was written last.
+-- anything is written. Behind it the canonical form of the rows before was written; where the sink failed itself, the end of
+-- what was written last may be missing.
 abbrev pub fault_says : Limits → List Shape → CopyFault → (List ℕ → Type 0) → List ℕ → Type 0
 fault_says limits columns fault Written taken =
     (header_cause fault taken × Written []) ⊎ Stopped limits columns fault Written taken ⊎ ((fault ≡ WriteFault) × Unwritten limits columns Written taken)

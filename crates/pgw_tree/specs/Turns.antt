@@ -8,8 +8,8 @@ use Rattle.pgw_tree.specs.declared.fault.CopyFault.{CopyFault}
 use Rattle.pgw_tree.specs.declared.fault.CopyFault.TheVariants.{Truncated, ReadFault}
 use Rattle.pgw_tree.specs.Tree.{Shape, Value}
 use Rattle.pgw_tree.specs.Spells.{SpellsRow, FitsRow}
-use Rattle.pgw_tree.specs.Canonical.{canonical_row, canonical_front, canonical_stream}
-use Rattle.pgw_tree.specs.Stream.{Limits, IsFront, IsStream, IsWithin}
+use Rattle.pgw_tree.specs.Canonical.{canonical_row, canonical_front}
+use Rattle.pgw_tree.specs.Stream.{Limits, IsFront, IsWithin}
 
 -- a row whose first cells spell these values, which fit
 pub record IsValuesRow (most : ℕ) (columns : List Shape) (bytes : List ℕ) (values : List Value) : Type 0 where
@@ -26,18 +26,10 @@ pub record TakesPart {X : Type 0} (before now : Option (List ℕ)) (failed : Typ
   pub at_end : result ≡ Err Truncated → IsAtEnd now
   pub has_failed : result ≡ Err ReadFault → failed
 
--- Of a call that takes a row or the end: a row, whose canonical row is these bytes, or the end.
+-- Of a call that takes a row or the end: a row whose values fit, and its canonical row to be written; or the end.
 abbrev pub IsTurn : Limits → List Shape → List ℕ → Bool → List ℕ → Type 0
-IsTurn limits columns written true bytes = (values : List Value) × IsValuesRow limits.field_max columns bytes values × (written ≡ canonical_row columns values)
-IsTurn limits columns written false bytes = bytes ≡ trailer
-
--- Rows that were copied: the stream that spells them was taken, and its canonical form was written.
-pub record IsCopied (limits : Limits) (columns : List Shape) (n : ℕ) (Written : List ℕ → Type 0) (taken : List ℕ) : Type 0 where
-  pub rows : List (List Value)
-  pub stream : IsStream columns taken rows
-  pub within : IsWithin limits columns rows
-  pub many : length rows ≡ n
-  pub written : Written (canonical_stream columns rows)
+IsTurn limits columns to_write true bytes = (values : List Value) × IsValuesRow limits.field_max columns bytes values × (to_write ≡ canonical_row columns values)
+IsTurn limits columns to_write false bytes = bytes ≡ trailer
 
 -- the rows so far: the front that spells them was taken, and its canonical form was written
 pub record IsCopying (limits : Limits) (columns : List Shape) (n : ℕ) (Written : List ℕ → Type 0) (taken : List ℕ) : Type 0 where

@@ -7,8 +7,8 @@ use thiserror::Error;
 /// Why a stream was not copied. Rows and columns are counted from 0.
 #[derive(Clone, Copy, Debug, PartialEq, Eq, Error)]
 pub enum CopyFault {
-    /// The source does not begin with the bytes that every stream begins with, or the length of the header's extension
-    /// is negative.
+    /// The first 19 bytes do not begin with those that every stream begins with, or state, behind good flags, a negative
+    /// length of the header's extension.
     #[error("bad header")]
     BadHeader,
     /// A bit of the high half of the header's flags, which are these, is set.
@@ -38,7 +38,7 @@ pub enum CopyFault {
         row: u64,
         column: usize,
     },
-    /// There are more rows than the limit.
+    /// As many rows as the limit were copied, and the count of another one is there.
     #[error("row limit")]
     RowLimit,
     /// The source failed.

@@ -1,12 +1,10 @@
 ghost use Rattle.std.specs.Prelude.{◌≡◌, ◌<◌, ◌≤◌, ◌^◌, List, length, true, Ok, Err, IfOk, OnOk, IsErr, IsOkUnless, option_map, ⊤};
 ghost use Rattle.std.specs.Io.KnownBytes.{Appends, IsAtEnd};
 ghost use Rattle.pgw_wire.specs.Outside.{HasFailed, Took, HasFront, HasNoFront, Gains, Wrote};
-ghost use Rattle.pgw_tree.specs.Tree.{Value, shapes};
-ghost use Rattle.pgw_tree.specs.Stream.{IsStream, IsStreamOf, IsValidStream};
-ghost use Rattle.pgw_tree.specs.Canonical.{canonical_stream};
+ghost use Rattle.pgw_tree.specs.Tree.{shapes};
+ghost use Rattle.pgw_tree.specs.Stream.{IsValidStream};
 ghost use Rattle.pgw_tree.specs.Handed.{limits_of};
-ghost use Rattle.pgw_tree.specs.Causes.{fault_says};
-ghost use Rattle.pgw_tree.specs.Turns.{IsCopied};
+ghost use Rattle.pgw_tree.specs.Causes.{IsCopied, fault_says};
 
 use crate::turn::next_row;
 use crate::{CopyFault, FirstType, Limits};
@@ -60,7 +58,7 @@ fn copy_stream<S: Source, K: Sink>(
 ///
 /// | fault | cause | what was written |
 /// |---|---|---|
-/// | `BadHeader` | the first 19 bytes begin no stream, or state a negative length of the extension | nothing |
+/// | `BadHeader` | the first 19 bytes begin no stream, or state, behind good flags, a negative length of the extension | nothing |
 /// | `BadFlags` | a bit of the high half of the flags is set | nothing |
 /// | `Truncated` | the source ended inside the header | nothing |
 /// | `Truncated` | it ended inside a row, or where a row or the end has to come | header and rows before |
@@ -70,8 +68,8 @@ fn copy_stream<S: Source, K: Sink>(
 /// | `BadValue` | a field spells no value of its column's type | header and rows before |
 /// | `TooLong` | a value has more canonical bytes than the limit | header and rows before |
 /// | `ReadFault` | the source failed | nothing, or header and rows before |
-/// | `WriteFault` | the sink failed | header and rows, without the end of what was written last |
-/// | `NoMemory` | memory for a row was asked for and refused | nothing, or header and rows before |
+/// | `WriteFault` | the sink failed | header and rows; the end of what was written last may be missing |
+/// | `NoMemory` | memory for a row was asked for and refused | header and rows before |
 ///
 /// One row is held in memory, as it was read and in its canonical form. Tests and not clauses show that each row is
 /// written once it is read, that the sink is flushed once, behind the end, and that no read is made that is not needed.
@@ -87,14 +85,11 @@ pub fn recopy_first<S: Source, K: Sink>(
 
     // The bytes taken are a stream that spells as many rows as it answers, and the bytes written are their canonical
     // stream.
-    ensures copied { IfOk result (λ n.
-        Took (S.left source.old) (S.left source.new) (IsStreamOf (limits_of limits) (shapes columns.now) n)) }
-    ensures canonical { OnOk result (Took (S.left source.old) (S.left source.new) (λ taken.
-        (rows : List (List Value)) → IsStream (shapes columns.now) taken rows
-        → Appends (K.gained sink.old) (K.gained sink.new) (canonical_stream (shapes columns.now) rows))) }
+    ensures copied { IfOk result (λ n. Took (S.left source.old) (S.left source.new)
+        (IsCopied (limits_of limits) (shapes columns.now) n (Appends (K.gained sink.old) (K.gained sink.new)))) }
     ensures settled { OnOk result (K.settled sink.new ≡ option_map (λ _. true) (K.settled sink.old)) }
 
-    // What each fault says of the bytes that were taken, and of those that were written by writes alone.
+    // What each fault says of the bytes that were taken, and of those that were written.
     ensures fault { (fault : _) → result ≡ Err fault → Took (S.left source.old) (S.left source.new)
         (fault_says (limits_of limits) (shapes columns.now) fault
         (Wrote (K.gained sink.old) (K.gained sink.new) (K.settled sink.old) (K.settled sink.new))) }

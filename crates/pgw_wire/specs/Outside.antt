@@ -45,8 +45,8 @@ pub record HasNoFront (before : Option (List ℕ)) (P : List ℕ → Type 0) : T
 abbrev pub Gains : Option (List ℕ) → Option (List ℕ) → Type 0
 Gains before now = (bytes : List ℕ) × Appends before now bytes
 
--- A sink got these bytes by writes alone: it gained them, where it tells that, and where it tells whether it is settled,
--- it is no longer once it took a byte.
+-- These bytes were written to a sink: it gained them, where it tells that; and where it tells whether it is settled, it is
+-- not, unless there are none, where it is settled as before.
 pub record Wrote (gained gained_now : Option (List ℕ)) (settled settled_now : Option Bool) (bytes : List ℕ) : Type 0 where
   pub appends : Appends gained gained_now bytes
   pub settles : settled_now ≡ settled_after (length bytes) settled

@@ -1,4 +1,4 @@
-ghost use Rattle.std.specs.Prelude.{◌≡◌, ◌+◌, ◌-◌, ◌^◌, ◌≤◌, ◌==◌, ◌++◌, [], true, false, Some, None, Ok, Err, IfOk, OnOk, OnErr, length, min, take, drop, if◌then◌else◌};
+ghost use Rattle.std.specs.Prelude.{◌≡◌, ◌+◌, ◌-◌, ◌^◌, ◌≤◌, ◌==◌, ◌++◌, [], true, false, Some, None, Ok, Err, IfOk, IsOk, OnOk, OnErr, length, min, take, drop, if◌then◌else◌};
 ghost use Rattle.pgw_wire.specs.Memory.{course_of, is_failing, limit_of, succeeded, failed, left_of, given, accepted};
 ghost use Rattle.pgw_wire.specs.Outside.{settled_after};
 
@@ -143,6 +143,7 @@ impl Sink for MemorySink {
     fn write(&mut self, piece: &[u8]) -> Result<usize, Failed>
         ensures answer { IfOk result (λ n. n ≡ accepted piece.now self.old) }
         ensures failing { is_failing self.old.course ≡ true → result ≡ Err (record {}) }
+        ensures empty { is_failing self.old.course ≡ false → piece.now ≡ [] → IsOk result }
         ensures ok { IfOk result (λ n. self.new ≡ record {
           gained = self.old.gained ++ take n piece.now;
           settled = (if n == 0 then self.old.settled else false);

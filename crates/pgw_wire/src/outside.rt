@@ -60,7 +60,7 @@ pub trait Sink {
         ensures gained { IfOk result (λ n. Appends (gained self.old) (gained self.new) (take n piece.now)) }
         ensures settled { IfOk result (λ n. settled self.new ≡ settled_after n (settled self.old)) }
         ensures err { OnErr result (Keeps (gained self.old) (gained self.new)) }
-        ensures unsettled { OnErr result (settled self.new ≡ settled self.old) }
+        ensures settled_kept { OnErr result (settled self.new ≡ settled self.old) }
         ensures failed { OnErr result (HasFailed (fault_count self.old) (fault_count self.new)) }
         ensures faults { fault_count self.old ≤ fault_count self.new }
         ensures origin { origin self.new ≡ origin self.old };

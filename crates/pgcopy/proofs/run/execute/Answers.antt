@@ -8,9 +8,6 @@ pub returns-in-Ok-recopy_first-clause-copied : goal.returns-in-Ok-recopy_first-c
 returns-in-Ok-recopy_first-clause-copied g c =
     rw c.in-Ok.ensures.plan (λ _. (c.in-Ok-recopy_first.rows, refl, simp c.as_slice.ensures at c.in-Ok-recopy_first.ensures.copied))
 
-pub returns-in-Ok-recopy_first-clause-canonical : goal.returns-in-Ok-recopy_first-clause-canonical
-returns-in-Ok-recopy_first-clause-canonical g c = rw c.in-Ok.ensures.plan (λ _. simp c.as_slice.ensures at c.in-Ok-recopy_first.ensures.canonical)
-
 pub returns-in-Ok-clause-fault : goal.returns-in-Ok-clause-fault
 returns-in-Ok-clause-fault g c =
     rw c.in-Ok.ensures.plan (λ _ _. (

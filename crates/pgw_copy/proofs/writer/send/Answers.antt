@@ -14,7 +14,7 @@ loop-sent-init g c = record {
 }
 
 pub returns-in_err-n-clause-err : goal.returns-in_err-n-clause-err
-returns-in_err-n-clause-err g c = whatever c.from_residual.result (wrote_first c.args.piece.now c.loop-sent.sent c.loop-sent.invariant.wrote c.in_err-n.ensures.err c.in_err-n.ensures.unsettled)
+returns-in_err-n-clause-err g c = whatever c.from_residual.result (wrote_first c.args.piece.now c.loop-sent.sent c.loop-sent.invariant.wrote c.in_err-n.ensures.err c.in_err-n.ensures.settled_kept)
 
 pub loop-sent-preserved : goal.loop-sent-preserved
 loop-sent-preserved g c = record {

@@ -13,6 +13,7 @@ use Rattle.pgw_tree.specs.Causes.{fault_says, row_cause, in_row, in_end}
 use Rattle.pgw_tree.specs.Turns.{IsCopying}
 use Rattle.pgw_tree.proofs.Parts.{fault_exit}
 use Rattle.pgw_tree.proofs.Copies.{front_more, within_more, none_copied, one_copied, part_written, header_says, says_at, told_after}
+use Rattle.pgw_tree.proofs.Finish.{copied_rows}
 use Rattle.pgw_tree.proofs.recopy.copy_stream.Goals as goal
 
 pub returns-in_err-reader-clause-fault : goal.returns-in_err-reader-clause-fault
@@ -111,13 +112,9 @@ returns-clause-copied g c = λ n is.
     let now = g.K.Sink.gained c.trailer.new.sink in
     let turn = rw c.if-branch.false at (c.in_ok-next_row.ensures.takes.ok _ refl) in
     let same : c.loop-writer.rows ≡ n = cc in
-    took_then c.loop-writer.invariant.took turn (λ x y k end. record {
-      rows = k.rows;
-      stream = record { front = x; begins = k.begins; is = ap (λ l. x ++ l) end };
-      within = k.within;
-      many = k.many ∙ same;
-      written = appends_then before mid now (canonical_front ts k.rows) trailer k.written.appends c.in_ok-trailer.ensures.ok;
-    })
+    took_then c.loop-writer.invariant.took turn (λ x y k end.
+    copied_rows (limits_of c.args.limits) ts n _ (x ++ y) k.rows (record { front = x; begins = k.begins; is = ap (λ l. x ++ l) end }) k.within (k.many ∙ same)
+    (appends_then before mid now (canonical_front ts k.rows) trailer k.written.appends c.in_ok-trailer.ensures.ok))
 
 pub returns-clause-settled : goal.returns-clause-settled
 returns-clause-settled g c =

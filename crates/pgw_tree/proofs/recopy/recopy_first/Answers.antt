@@ -1,11 +1,8 @@
 use Rattle.pgw_tree.specs.Tree.{shapes}
 use Rattle.pgw_tree.specs.Handed.{limits_of}
 use Rattle.pgw_tree.proofs.Excluded.{excluded}
-use Rattle.pgw_tree.proofs.Finish.{canonical_of_any, complete, refused, taken_of}
+use Rattle.pgw_tree.proofs.Finish.{complete, refused, taken_of, gained_of}
 use Rattle.pgw_tree.proofs.recopy.recopy_first.Goals as goal
-
-pub returns-clause-canonical : goal.returns-clause-canonical
-returns-clause-canonical g c = canonical_of_any (limits_of c.args.limits) (shapes c.args.columns.now) _ _ _ _ c.copy_stream.result c.copy_stream.ensures.copied
 
 pub returns-clause-complete : goal.returns-clause-complete
 returns-clause-complete g c =
@@ -18,3 +15,6 @@ returns-clause-refused g c = refused (limits_of c.args.limits) (shapes c.args.co
 
 pub returns-clause-taken : goal.returns-clause-taken
 returns-clause-taken g c = taken_of c.copy_stream.result _ _ _ _ c.copy_stream.ensures.copied c.copy_stream.ensures.fault
+
+pub returns-clause-gained : goal.returns-clause-gained
+returns-clause-gained g c = gained_of (limits_of c.args.limits) (shapes c.args.columns.now) _ _ _ _ _ _ c.copy_stream.result c.copy_stream.ensures.copied c.copy_stream.ensures.fault

@@ -29,5 +29,5 @@ returns-in_ok-push-clause-takes g c =
     takes_done _ _ _ (took_weaker (c.in_ok-length.ensures.takes.ok _ refl) (λ x is. (
       None,
       (c.in_ok-length.length, omega arith, is.0, is.1),
-      ap (cells_at c.self.inside.bytes.bytes) c.in_ok-push.ensures.items ∙ null_kept c.self.inside.places.items c.self.inside.bytes.bytes ∙ ap (λ cs. cs ++ (None ∷ [])) c.self.view_is,
+      ap (cells_at c.self.inside.bytes) c.in_ok-push.ensures.items ∙ null_kept c.self.inside.places.items c.self.inside.bytes ∙ ap (λ cs. cs ++ (None ∷ [])) c.self.view_is,
     )))

@@ -1,13 +1,12 @@
 use Rattle.std.proofs.Common.{◌≡◌, ◌≤◌, ◌+◌, ◌++◌, length}
 use Rattle.pgw_wire.specs.Outside.{Took}
-use Rattle.pgw_copy.proofs.source.take_bytes.Given as goal
+use Rattle.pgw_copy.proofs.pieces.Pieces.take.Given as goal
 
 abbrev pub invariant-loop-left : goal.invariant-loop-left
 invariant-loop-left g l = record {
-  chunk : length l.chunk ≡ 512;
   within : l.left ≤ l.len;
-  took : Took (g.S.Source.left l.fn.source) (g.S.Source.left l.source) (λ taken. (length taken + l.left ≡ l.len) × (l.bytes.bytes ≡ l.fn.bytes.bytes ++ taken));
-  grown : length l.bytes.bytes + l.left ≡ length l.fn.bytes.bytes + l.len;
+  took : Took (g.S.Source.left l.fn.source) (g.S.Source.left l.source) (λ taken. (length taken + l.left ≡ l.len) × (l.self ≡ l.fn.self ++ taken));
+  grown : length l.self + l.left ≡ length l.fn.self + l.len;
   faults : g.S.Source.fault_count l.fn.source ≤ g.S.Source.fault_count l.source;
   origin : g.S.Source.origin l.source ≡ g.S.Source.origin l.fn.source;
 }
