@@ -56,7 +56,7 @@ abbrev pub digits_in : List ℕ → List (List ℕ) → Option (List ℕ)
 digits_in front [] = None
 digits_in front (word ∷ words) = option_or (behind front word) (digits_in front words)
 
--- what is wrong with an option of a number behind these words
+-- what is wrong with the number of a word that is the option `front`, behind these words
 abbrev pub number_fault : List ℕ → ℕ → List (List ℕ) → List ℕ → Option WordFault
 number_fault front most before word =
     option_and_then (λ digits. result_err (number_of most digits (is_some (digits_in front before)))) (behind front word)

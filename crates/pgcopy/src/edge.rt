@@ -9,6 +9,7 @@ use crate::run::run;
 use pgw_wire::{ReadSource, Sink, WriteSink};
 use std::alloc::Global;
 use std::io::{BufReader, BufWriter, Error, ErrorKind, Read, Write};
+use std::process::ExitCode;
 use std::rt::Env;
 use std::{env, io};
 
@@ -112,6 +113,29 @@ pub fn copy<I: Read + Drop, O: Write + Drop, E: Write + Drop>(
     let _ = sink.flush();
     let _ = notes.flush();
     Ok(status)
+}
+
+/// Writes a text to `output`. Where that fails, the line of a write fault goes to `errors`, with the status of one.
+pub fn tell<O: Write + Drop, E: Write + Drop>(text: &str, output: O, errors: E) -> ExitCode {
+    let mut output = Retrying { inner: output };
+    let told = match output.write_all(text.as_bytes()) {
+        Ok(()) => output.flush(),
+        Err(error) => Err(error),
+    };
+    match told {
+        Ok(()) => ExitCode::SUCCESS,
+        Err(_) => {
+            let mut errors = Retrying { inner: errors };
+            let _ = errors.write_all(b"write fault\n");
+            ExitCode::from(Status::Outside.code())
+        }
+    }
+}
+
+/// Tells on `errors` where to read how the program is used.
+pub fn hint<E: Write + Drop>(errors: E) {
+    let mut errors = Retrying { inner: errors };
+    let _ = errors.write_all(b"try pgcopy --help\n");
 }
 
 /// Tells on `errors` why there was no run.

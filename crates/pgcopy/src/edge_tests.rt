@@ -1,4 +1,5 @@
-use crate::edge::{copy, explain};
+use crate::about::asked;
+use crate::edge::{copy, explain, tell};
 use crate::report::Status;
 use std::io::{Error, ErrorKind, Read, Result, Write};
 
@@ -78,4 +79,37 @@ fn why_there_was_no_run_is_told(rt: HostRuntime) {
         explain(&Error::from(kind), &mut errors);
         assert_eq!(rt; errors.as_slice(), line);
     }
+}
+
+#[test]
+fn help_is_asked_for_by_one_word(rt: HostRuntime) {
+    let alloc = rt.alloc();
+    let table: [(&[&str], &str); 5] = [
+        (&["--help"], "usage: pgcopy copy "),
+        (&["-h"], "usage: pgcopy copy "),
+        (&["--version"], "pgcopy "),
+        (&["copy", "--help"], ""),
+        (&[], ""),
+    ];
+    for (given, begin) in table {
+        let mut words = Vec::new(alloc);
+        for word in given {
+            words
+                .push(String::from_str(alloc, word).expect(&rt, "memory"))
+                .expect(&rt, "memory");
+        }
+        match asked(&words) {
+            Some(text) => {
+                assert!(rt; text.starts_with(begin));
+                assert!(rt; !begin.is_empty());
+                let mut output = Vec::<u8>::new(alloc);
+                tell(text, &mut output, Full);
+                assert_eq!(rt; output.as_slice(), text.as_bytes());
+            }
+            None => assert!(rt; begin.is_empty()),
+        }
+    }
+    let mut errors = Vec::<u8>::new(alloc);
+    tell("text", Full, &mut errors);
+    assert_eq!(rt; errors.as_slice(), b"write fault\n".as_slice());
 }

@@ -2,6 +2,7 @@
 //! input to standard output, in its canonical form. A line on standard error and the exit status tell what came of it.
 #![tactic(auto)]
 
+mod about;
 mod edge;
 #[cfg(test)]
 mod edge_tests;
@@ -13,16 +14,26 @@ mod words;
 #[cfg(test)]
 mod words_tests;
 
+use crate::report::Status;
+use std::io::IsTerminal;
 use std::process::ExitCode;
 
 fn main(rt: HostRuntime) -> ExitCode {
     let ended = match edge::words(&rt) {
-        Ok(words) => edge::copy(rt.alloc(), &words, rt.stdin(), rt.stdout(), rt.stderr()),
+        Ok(words) => {
+            if let Some(text) = about::asked(&words) {
+                return edge::tell(text, rt.stdout(), rt.stderr());
+            }
+            edge::copy(rt.alloc(), &words, rt.stdin(), rt.stdout(), rt.stderr())
+        }
         Err(error) => Err(error),
     };
     let status = match ended {
         Ok(status) => status,
         Err(error) => edge::explain(&error, rt.stderr()),
     };
+    if status == Status::Words && rt.stderr().is_terminal() {
+        edge::hint(rt.stderr());
+    }
     ExitCode::from(status.code())
 }

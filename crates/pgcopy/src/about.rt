@@ -1,0 +1,46 @@
+ghost use Rattle.std.specs.Prelude.{IsSome, IsErr};
+ghost use Rattle.pgcopy.specs.Words.{plan_of};
+
+/// How the program is used.
+const HELP: &str = "\
+usage: pgcopy copy [rows=N] [field=N] TYPE...
+       pgcopy --help | -h | --version
+
+Reads a stream from standard input as PostgreSQL sends it for
+COPY .. TO STDOUT (FORMAT binary), and writes to standard output the canonical
+stream of the same rows. A line of report goes to standard error.
+
+Each TYPE is the type of one column: int4, int4?, text or text?. A field of a
+column with a ? may be null.
+
+options, in front of the types, each at most once:
+  rows=N   copy at most N rows, up to 18446744073709551615
+  field=N  copy fields of at most N bytes, up to 2147483647
+
+exit status:
+  0  the whole stream was copied
+  1  something is wrong with the words; nothing was read
+  2  the input is no such stream, or exceeds a limit
+  3  the input could not be read, or the output not written
+  5  memory was asked for and refused
+Use the output after status 0 only.
+
+example:
+  psql -Atc \"COPY t TO STDOUT (FORMAT binary)\" | pgcopy copy int4 'text?' > t.pgcopy
+";
+
+const VERSION: &str = "pgcopy 0.1.0\n";
+
+/// What the program tells of itself where one of the words `--help`, `-h` and `--version` stands alone.
+pub fn asked(words: &[String]) -> Option<&'static str>
+    ensures { IsSome result → IsErr (plan_of words.now) }
+{
+    if words.len() != 1 {
+        return None;
+    }
+    match words[0].as_str() {
+        "--help" | "-h" => Some(HELP),
+        "--version" => Some(VERSION),
+        _ => None,
+    }
+}
