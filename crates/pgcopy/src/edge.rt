@@ -6,7 +6,7 @@ ghost use Rattle.pgcopy.specs.Words.{plan_of};
 
 use crate::report::Status;
 use crate::run::run;
-use pgw_wire::{ReadSource, Sink, WriteSink};
+use pgw_wire::{BufReadSource, Sink, WriteSink};
 use std::alloc::Global;
 use std::io::{BufReader, BufWriter, Error, ErrorKind, Read, Write};
 use std::process::ExitCode;
@@ -106,7 +106,7 @@ pub fn copy<I: Read + Drop, O: Write + Drop, E: Write + Drop>(
     let reader = BufReader::with_capacity(alloc, KEPT, Retrying { inner: input })?;
     let writer = BufWriter::with_capacity(alloc, KEPT, Retrying { inner: output })?;
     let line = BufWriter::with_capacity(alloc, LINE, Retrying { inner: errors })?;
-    let mut source = ReadSource::new(reader);
+    let mut source = BufReadSource::new(reader);
     let mut sink = WriteSink::new(writer);
     let mut notes = WriteSink::new(line);
     let status = run(alloc, words, &mut source, &mut sink, &mut notes);

@@ -1,7 +1,7 @@
 -- Facts on lists: what fills a buffer, and what one list begins with.
-use Rattle.std.proofs.Common.{◌≡◌, ℕ, ◌+◌, ◌-◌, ◌<◌, ◌≤◌, List, ◌++◌, length, take, drop, sym, ap, ◌∙◌, arith, length-append, length-drop}
+use Rattle.std.proofs.Common.{◌≡◌, ℕ, ◌+◌, ◌-◌, ◌≤◌, List, ◌++◌, length, take, drop, sym, ap, ◌∙◌, arith, length-append}
 use Rattle.std.proofs.Math.Seq.{take-append_seam, drop-append_seam, take-append-add}
-use Rattle.std.proofs.lemmas.List.{take_all, take-append-le, take-append-drop, length-take-le}
+use Rattle.std.proofs.lemmas.List.{take_all, take-append-le, length-take-le}
 use borrow.Rule.Slice.PartMut.{put_mid, post_of}
 
 -- what was filled before, and the front of what was put behind it
@@ -11,30 +11,12 @@ filled_more a k n xs ys within fits =
     ∙ take-append-add (take a xs) (ys ++ post_of a k xs) n
     ∙ ap (λ l. take a xs ++ l) (take-append-le n ys (post_of a k xs) fits)
 
--- A list is no shorter than its front.
-pub front_short : (x front rest : List ℕ) → x ≡ front ++ rest → length x < length front → ⊥
-front_short x front rest e short = absurd (omega (arith, ap length e, length-append front rest))
-
 -- Two lists that begin with lists of one length begin with the same list, and go on alike.
 pub same_front : (a b x y : List ℕ) → length a ≡ length b → a ++ x ≡ b ++ y → a ≡ b
 same_front a b x y n e = sym (take-append_seam a x) ∙ ap (take (length a)) e ∙ ap (λ k. take k (b ++ y)) n ∙ take-append_seam b y
 
 pub same_rest : (a b x y : List ℕ) → length a ≡ length b → a ++ x ≡ b ++ y → x ≡ y
 same_rest a b x y n e = sym (drop-append_seam a x) ∙ ap (drop (length a)) e ∙ ap (λ k. drop k (b ++ y)) n ∙ drop-append_seam b y
-
--- a list that goes on behind x: x, and as many more
-pub split_behind : (x behind front rest : List ℕ) (k : ℕ) → length front ≡ length x + k → x ++ behind ≡ front ++ rest → (y : List ℕ) × (length y ≡ k) × (front ≡ x ++ y)
-split_behind x behind front rest k long e =
-    let within : length x ≤ length front = omega arith in
-    let begins : x ≡ take (length x) front = sym (take-append_seam x behind) ∙ ap (take (length x)) e ∙ take-append-le (length x) front rest within in (
-      drop (length x) front,
-      omega (arith, length-drop (length x) front),
-      sym (take-append-drop (length x) front) ∙ ap (λ l. l ++ drop (length x) front) (sym begins),
-    )
-
--- a list begins with its first n
-pub begins_front : (n : ℕ) (front : List ℕ) → n ≤ length front → (x : List ℕ) × (y : List ℕ) × (length x ≡ n) × (front ≡ x ++ y)
-begins_front n front within = (take n front, drop n front, length-take-le n front within, sym (take-append-drop n front))
 
 -- the piece in front
 pub take_piece : (n : ℕ) (piece rest : List ℕ) → length piece ≡ n → take n (piece ++ rest) ≡ piece

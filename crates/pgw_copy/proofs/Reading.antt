@@ -120,10 +120,6 @@ pub short_later : (e : CopyReadError) (first second : List ℕ) (size all : ℕ)
 short_later e first second size all within h =
     cut_at (IsShort size) (IsShort all) e second (first ++ second) (λ short. omega (arith, within, short, length-append first second)) h
 
-pub short_kept : (e : CopyReadError) (first second : List ℕ) (size all : ℕ) → length first + size ≤ all → cut_fault (IsShort size) e second → kept_fault (IsShort all) (HasSize all) e (first ++ second)
-short_kept e first second size all within h =
-    kept_of_cut (IsShort size) (IsShort all) (HasSize all) e second (first ++ second) (λ short. omega (arith, within, short, length-append first second)) h
-
 -- Bytes that are no more than were asked for are short of that, or all of it.
 pub short_or_whole : (size : ℕ) (bytes : List ℕ) → length bytes ≤ size → IsShort size bytes ⊎ HasSize size bytes
 short_or_whole size bytes within = ⊎_swap (eq-or-lt_of_le within)
@@ -191,13 +187,3 @@ cut_of_row n (BadFieldCount c) x y count h = absurd h
 cut_of_row n ReadFault x y count h = cut_row n x y count h
 cut_of_row n NoMemory x y count (inl cut) = inl (cut_row n x y count cut)
 cut_of_row n NoMemory x y count (inr whole) = inr (whole.0, row_of n whole.0 x y count whole.1 whole.2)
-
--- What was filled is appended.
-pub takes_appended : {a b : Option (List ℕ)} {F : Type 0} {r : Result (Unit {0}) CopyReadError} (old new buf : List ℕ) (next : ℕ) → length buf ≡ next → new ≡ old ++ buf
-    → Takes a b F r (λ _ taken. taken ≡ buf) (cut_fault (IsShort next)) → Takes a b F r (λ _ taken. (length taken ≡ next) × (new ≡ old ++ taken)) (kept_fault (IsShort next) (HasSize next))
-takes_appended old new buf next long is t = record {
-  ok = λ x h. took_weaker (t.ok x h) (λ taken e. (ap length e ∙ long, is ∙ ap (λ l. old ++ l) (sym e)));
-  err = λ e h. took_weaker (t.err e h) (λ taken. kept_of_cut (IsShort next) (IsShort next) (HasSize next) e taken taken (λ s. s));
-  at_end = t.at_end;
-  has_failed = t.has_failed;
-}

@@ -1,4 +1,4 @@
-ghost use Rattle.std.specs.Prelude.{◌≡◌, ◌+◌, ◌-◌, ◌≤◌, [], ◌++◌, length, take, drop, max, vec_capacity, OnOk};
+ghost use Rattle.std.specs.Prelude.{◌≡◌, ◌+◌, ◌-◌, ◌≤◌, [], ◌++◌, length, take, drop, OnOk};
 ghost use Rattle.pgw_wire.specs.Outside.{HasFailed};
 ghost use Rattle.pgw_copy.specs.Reader.{Takes, kept_fault, IsShort, HasSize};
 
@@ -11,34 +11,42 @@ use std::marker::Model;
 /// For how many bytes room is made at once where they are many.
 const STEP: usize = 65536;
 
-/// The bytes of the pieces of a row, one behind the other. Contracts see them as a list.
+/// Makes room for `next` more bytes behind those in use. Where it grows, there is then room for as many again as are in
+/// use, up to 65536, so that many small pieces cost few requests.
+fn make_room(bytes: &mut Vec<u8>, used: usize, next: usize) -> Result<(), AllocError>
+    requires within { used ≤ length bytes.old.items }
+    requires step { next ≤ 65536 }
+    ensures ok { OnOk result (used + next ≤ length bytes.new.items) }
+    ensures kept { take used bytes.new.items ≡ take used bytes.old.items }
+    ensures within { used ≤ length bytes.new.items }
+{
+    if bytes.len() - used < next {
+        let room = used + next.max(used.min(STEP));
+        bytes.reserve_exact(room - bytes.len())?;
+        bytes.resize(room, 0)?;
+    }
+    Ok(())
+}
+
+/// The bytes of the pieces of a row, one behind the other, and behind them room for more, which is filled already. Contracts
+/// see the bytes in use as a list.
 #[derive(Drop)]
 pub(crate) struct Pieces {
     bytes: Vec<u8>,
+    used: usize,
 }
 
 impl Model for Pieces {
-    ghost use Rattle.std.specs.Prelude.{List, ℕ};
+    ghost use Rattle.std.specs.Prelude.{List, ℕ, ◌≤◌, take, vec_len};
     ghost use Rattle.std.specs.Coded.{coded_list, coded_ℕ};
 
     ghost Value = { List ℕ };
 
     ghost coded = { coded_list coded_ℕ };
 
-    ghost view = { λ p. p.bytes.items };
-}
+    ghost view = { λ p. take p.used p.bytes.items };
 
-/// Makes room for `next` more bytes. Where it grows, there is then room for as many again as there are bytes, up to 65536,
-/// so that many small pieces cost few requests.
-fn make_room(bytes: &mut Vec<u8>, next: usize) -> Result<(), AllocError>
-    requires { next ≤ 65536 }
-    ensures bytes { bytes.new.items ≡ bytes.old.items }
-    ensures room { vec_capacity bytes.new ≤ max (vec_capacity bytes.old) (length bytes.old.items + 65536) }
-{
-    if bytes.capacity() - bytes.len() < next {
-        bytes.reserve_exact(next.max(bytes.len().min(STEP)))?;
-    }
-    Ok(())
+    ghost invariant = { λ p. p.used ≤ vec_len p.bytes };
 }
 
 impl Pieces {
@@ -48,6 +56,7 @@ impl Pieces {
     {
         Pieces {
             bytes: Vec::new(alloc),
+            used: 0,
         }
     }
 
@@ -55,14 +64,14 @@ impl Pieces {
     pub(crate) fn clear(&mut self)
         ensures { self.new ≡ [] }
     {
-        self.bytes.clear();
+        self.used = 0;
     }
 
     /// How many bytes there are.
     pub(crate) fn len(&self) -> usize
         ensures { result ≡ length self.now }
     {
-        self.bytes.len()
+        self.used
     }
 
     /// The bytes from one place to another.
@@ -87,10 +96,10 @@ impl Pieces {
         ensures faults { S.fault_count source.old ≤ S.fault_count source.new }
         ensures origin { S.origin source.new ≡ S.origin source.old }
     {
-        make_room(&mut self.bytes, next)?;
-        let start = self.bytes.len();
-        self.bytes.resize(start + next, 0)?;
-        fill(source, &mut self.bytes[start..])
+        make_room(&mut self.bytes, self.used, next)?;
+        fill(source, &mut self.bytes[self.used..self.used + next])?;
+        self.used += next;
+        Ok(())
     }
 
     /// Takes the next `len` bytes, and appends them as they come: at most 65536 at a time, so that the room for them grows

@@ -73,9 +73,6 @@ one_copied limits ts n a b c s t u x y written vs k more row is wrote = record {
 pub part_written : {a b c : Option (List ℕ)} {s t u : Option Bool} (must next : List ℕ) → Wrote a b s t must → WroteFront b c t u next → PartWritten must next (Wrote a c s u)
 part_written must next w f = record { front = f.front; rest = f.rest; is = f.splits; written = wrote_then w f.wrote }
 
-pub part_alone : {a b : Option (List ℕ)} {s t : Option Bool} (next : List ℕ) → WroteFront a b s t next → PartWritten [] next (Wrote a b s t)
-part_alone next f = record { front = f.front; rest = f.rest; is = f.splits; written = f.wrote }
-
 -- what an error of the reader's header says
 pub header_says : (e : CopyReadError) (bytes : List ℕ) → header_fault e bytes → header_cause (fault_of e) bytes
 header_says BadHeader bytes h = h

@@ -1,7 +1,9 @@
-ghost use Rattle.std.specs.Prelude.{◌≡◌, None};
+ghost use Rattle.std.specs.Prelude.{◌≡◌, ◌<◌, ◌≤◌, ◌++◌, length, min, take, drop, None, Ok, IfOk, OnErr};
+ghost use Rattle.std.specs.Io.KnownBytes.{Consumes, Keeps, IsAtEnd};
+ghost use Rattle.pgw_wire.specs.Outside.{HasFailed};
 
 use crate::{Failed, Sink, Source};
-use std::io::{Read, Write};
+use std::io::{BufRead, Read, Write};
 
 const SCRATCH: usize = 4096;
 
@@ -44,6 +46,99 @@ impl<R: Read> Source for ReadSource<R> {
                 buf[..n].copy_from_slice(&scratch[..n]);
                 Ok(n)
             }
+            Err(_) => {
+                self.faults = self.faults.saturating_add(1);
+                Err(Failed)
+            }
+        }
+    }
+
+    fn faults(&self) -> u64 {
+        self.faults
+    }
+}
+
+/// Copies the front of a slice over that of another, as many bytes as both have, and answers how many.
+///
+/// Where it is inlined, and the length of `to` is known there, the length of the copy is known too.
+#[inline(always)]
+fn copy_front(from: &[u8], to: &mut [u8]) -> usize
+    ensures count { result ≡ min (length from.now) (length to.old) }
+    ensures bytes { to.new ≡ take result from.now ++ drop result to.old }
+{
+    if to.len() <= from.len() {
+        let n = to.len();
+        to.copy_from_slice(&from[..n]);
+        n
+    } else {
+        let n = from.len();
+        to[..n].copy_from_slice(from);
+        n
+    }
+}
+
+/// A source over a reader that has a buffer. A read gives bytes of the buffer, which is filled first where it is empty. So
+/// each byte is copied once, where a `ReadSource` copies it twice.
+///
+/// At the end of the reader one more read of it, of one byte, finds that nothing is left.
+#[derive(Drop)]
+pub struct BufReadSource<R> {
+    inner: R,
+    faults: u64,
+}
+
+impl<R: BufRead> BufReadSource<R> {
+    /// A source over `inner` that has not failed.
+    pub fn new(inner: R) -> BufReadSource<R>
+        ensures left { ⟦<BufReadSource<R> as Source>⟧.left result ≡ R.remaining inner }
+        ensures faults { ⟦<BufReadSource<R> as Source>⟧.fault_count result ≡ 0 }
+    {
+        BufReadSource { inner, faults: 0 }
+    }
+
+    /// Reads one byte by way of an array, unless the reader is at its end.
+    fn read_byte(&mut self, buf: &mut [u8]) -> Result<usize, Failed>
+        ensures within { IfOk result (λ n. n ≤ length buf.old) }
+        ensures taken { IfOk result (λ n. Consumes (R.remaining self.old.inner) (R.remaining self.new.inner) (take n buf.new)) }
+        ensures rest { IfOk result (λ n. drop n buf.new ≡ drop n buf.old) }
+        ensures end { result ≡ Ok 0 → 0 < length buf.old → IsAtEnd (R.remaining self.new.inner) }
+        ensures err { OnErr result (Keeps (R.remaining self.old.inner) (R.remaining self.new.inner)) }
+        ensures buffer_kept { OnErr result (buf.new ≡ buf.old) }
+        ensures failed { OnErr result (HasFailed self.old.faults self.new.faults) }
+        ensures faults { self.old.faults ≤ self.new.faults }
+    {
+        let mut byte = [0];
+        let len = buf.len().min(1);
+        match self.inner.read(&mut byte[..len]) {
+            Ok(n) => {
+                buf[..n].copy_from_slice(&byte[..n]);
+                Ok(n)
+            }
+            Err(_) => {
+                self.faults = self.faults.saturating_add(1);
+                Err(Failed)
+            }
+        }
+    }
+}
+
+impl<R: BufRead> Source for BufReadSource<R> {
+    ghost left = { λ s. R.remaining s.inner };
+
+    ghost fault_count = { λ s. s.faults };
+
+    ghost origin = { λ _. tt };
+
+    #[inline(always)]
+    fn read(&mut self, buf: &mut [u8]) -> Result<usize, Failed> {
+        match self.inner.fill_buf() {
+            Ok(kept) if !kept.is_empty() => {
+                let n = copy_front(kept, buf);
+                self.inner.consume(n);
+                Ok(n)
+            }
+            // std promises of a read alone that 0 bytes mean the end.
+            Ok(_) => self.read_byte(buf),
             Err(_) => {
                 self.faults = self.faults.saturating_add(1);
                 Err(Failed)

@@ -17,7 +17,7 @@ pub use buffer::ByteBuffer;
 pub use cell::RawCell;
 pub use cuts::{take_i16, take_i32, take_i64, take_piece, take_u8, take_u16, take_u32, take_u64};
 pub use error::{Failed, NoMemory};
-pub use io::{ReadSource, WriteSink};
+pub use io::{BufReadSource, ReadSource, WriteSink};
 pub use kind::Break;
 pub use memory::{MemorySink, MemorySource};
 pub use outside::{Sink, Source};

@@ -1,7 +1,7 @@
 use super::*;
 use std::alloc::Global;
 use std::io;
-use std::io::{Read, Write};
+use std::io::{BufReader, Read, Write};
 use std::test::Fail;
 
 #[test]
@@ -175,6 +175,27 @@ fn a_reader_is_a_source(rt: HostRuntime) {
     assert_eq!(rt; source.read(&mut buf), Ok(1));
     assert_eq!(rt; buf, [7, 0]);
     assert_eq!(rt; source.read(&mut buf), Err(Failed));
+    assert_eq!(rt; source.faults(), 1);
+}
+
+#[test]
+fn a_reader_with_a_buffer_is_a_source(rt: HostRuntime) {
+    let alloc: Global = rt.alloc();
+    let reader = BufReader::with_capacity(alloc, 4, b"abcdef".as_slice()).expect(&rt, "memory");
+    let mut source = BufReadSource::new(reader);
+    let mut buf = [0; 3];
+    for (n, bytes) in [(3, b"abc"), (1, b"dbc"), (2, b"efc"), (0, b"efc")] {
+        assert_eq!(rt; source.read(&mut buf), Ok(n));
+        assert_eq!(rt; buf, *bytes);
+    }
+    assert_eq!(rt; source.faults(), 0);
+
+    let reader = BufReader::with_capacity(alloc, 4, Odd { calls: 0 }).expect(&rt, "memory");
+    let mut source = BufReadSource::new(reader);
+    assert_eq!(rt; source.read(&mut buf), Ok(1));
+    assert_eq!(rt; buf, [7, b'f', b'c']);
+    assert_eq!(rt; source.read(&mut buf), Err(Failed));
+    assert_eq!(rt; buf, [7, b'f', b'c']);
     assert_eq!(rt; source.faults(), 1);
 }
 

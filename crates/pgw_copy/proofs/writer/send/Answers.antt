@@ -1,4 +1,4 @@
-use Rattle.std.proofs.Common.{rules, ℕ, List, take, subst, refl, arith}
+use Rattle.std.proofs.Common.{rules, ℕ, List, subst, arith}
 use Rattle.std.proofs.lemmas.List.{take_rest, take_all}
 use Rattle.pgw_wire.specs.Outside.{Wrote}
 use Rattle.pgw_wire.proofs.Adding.{wrote_none, wrote_more}

@@ -1,25 +1,33 @@
-use Rattle.std.proofs.Common.{rules, ◌≡◌, ◌++◌, List, ℕ, length, take, drop, ◌+◌, ◌-◌, arith, sym, ap, ◌∙◌, length-take, length-drop, subst}
+use Rattle.std.proofs.Common.{◌≡◌, ◌≤◌, ◌++◌, List, ℕ, length, take, drop, ◌+◌, ◌-◌, arith, sym, ap, ◌∙◌, length-take, length-drop, refl}
 use Rattle.std.proofs.lemmas.Grind.{common_steps}
-use Rattle.pgw_copy.specs.Reader.{IsShort, cut_fault, Takes}
-use Rattle.pgw_copy.proofs.Reading.{takes_appended}
+use Rattle.pgw_wire.proofs.Taking.{took_weaker}
+use Rattle.pgw_copy.specs.Reader.{IsShort, HasSize}
+use Rattle.pgw_copy.proofs.Reading.{exit, takes_first, takes_done, kept_of_cut}
 use Rattle.pgw_copy.proofs.pieces.Pieces.append.Goals as goal
 
-take_two : (cut : ℕ) (x y z w : List ℕ) → cut ≡ length x + length y → take cut (x ++ (y ++ z) ++ w) ≡ x ++ y
-take_two cut x y z w e = grind (arith, common_steps)
+-- the first n of a row of bytes in whose midst y was written
+take_two : (n len : ℕ) (x y z w : List ℕ) → n ≡ length x + length y → n ≤ len → take n (take len (x ++ (y ++ z) ++ w)) ≡ x ++ y
+take_two n len x y z w e within = grind (arith, common_steps)
 
-front_kept : (start next : ℕ) (old zeros made : List ℕ) → start ≡ length old → made ≡ take (start + next) old ++ zeros → take start made ≡ old
-front_kept start next old zeros made e is = grind (arith, common_steps)
+-- how much was to be filled
+part : (used next : ℕ) (lent : List ℕ) → used + next ≤ length lent → length (take (used + next - used) (drop used lent)) ≡ next
+part used next lent within = omega (arith, within, length-take (used + next - used) (drop used lent), length-drop used lent)
+
+pub returns-in_err-fill-clause-takes : goal.returns-in_err-fill-clause-takes
+returns-in_err-fill-clause-takes g c =
+    let size = part c.self.inside.used c.args.next c.deref_mut.result.now (omega (arith, c.in_ok-make_room.ensures.ok, ap length c.deref_mut.ensures.value)) in
+    takes_first _ _ (exit c.from_residual-in_err-fill.result _ c.from_residual-in_err-fill.ensures.1) (rw size at c.in_err-fill.ensures.takes) (λ f. f)
+    (λ d bytes. kept_of_cut (IsShort c.args.next) (IsShort c.args.next) (HasSize c.args.next) d bytes bytes (λ s. s))
 
 pub returns-clause-takes : goal.returns-clause-takes
 returns-clause-takes g c =
+    let used = c.self.inside.used in
     let lent = c.deref_mut.result.now in
-    let start = c.len-start.result in
-    let size : length lent ≡ start + c.args.next = c.deref_mut.ensures.len ∙ c.in_ok-resize.ensures.len in
-    let part : length (take (length lent - start) (drop start lent)) ≡ c.args.next = omega (arith, size, length-take (length lent - start) (drop start lent), length-drop start lent) in
-    let long : length c.fill.new.buf ≡ c.args.next = c.fill.auto.buf ∙ part in
-    let same : c.make_room.new.bytes.items ≡ c.args.self.now = c.in_ok-make_room.ensures.bytes ∙ c.self.view_is in
-    let begins : start ≡ length c.make_room.new.bytes.items = omega (arith, c.len-start.ensures, c.make_room.new.bytes.ok.0) in
-    let front : take start lent ≡ c.make_room.new.bytes.items = front_kept start c.args.next c.make_room.new.bytes.items _ lent begins (c.deref_mut.ensures.value ∙ c.in_ok-resize.ensures.items) in
-    takes_appended _ _ c.fill.new.buf c.args.next long
-    (take_two _ (take start lent) c.fill.new.buf _ _ (omega (arith, c.in_ok-resize.ensures.len, long, ap length front, begins)) ∙ ap (λ l. l ++ c.fill.new.buf) (front ∙ same))
-    (rw part at c.fill.ensures.takes)
+    let buf = c.fill.new.buf in
+    let room : used + c.args.next ≤ length lent = omega (arith, c.in_ok-make_room.ensures.ok, ap length c.deref_mut.ensures.value) in
+    let long : length buf ≡ c.args.next = c.fill.auto.buf ∙ part used c.args.next lent room in
+    let front : take used lent ≡ c.args.self.now = ap (take used) c.deref_mut.ensures.value ∙ c.in_ok-make_room.ensures.kept ∙ c.self.view_is in
+    takes_done _ _ _ (took_weaker (c.in_ok-fill.ensures.takes.ok _ refl) (λ taken e. (
+      ap length e ∙ long,
+      take_two _ _ (take used lent) buf _ _ (omega (arith, long, length-take used lent, room)) (omega (arith, c.in_ok-make_room.ensures.ok)) ∙ ap (λ l. l ++ buf) front ∙ ap (λ l. c.args.self.now ++ l) (sym e),
+    )))

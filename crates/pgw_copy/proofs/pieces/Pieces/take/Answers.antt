@@ -1,4 +1,4 @@
-use Rattle.std.proofs.Common.{rules, ◌≡◌, ◌++◌, length, refl, ap, ◌∙◌, arith, length-append, append_assoc}
+use Rattle.std.proofs.Common.{rules, ◌++◌, refl, ap, ◌∙◌, arith, length-append, append_assoc}
 use Rattle.pgw_wire.proofs.Taking.{took_then, took_weaker}
 use Rattle.pgw_copy.specs.Reader.{IsShort, HasSize}
 use Rattle.pgw_copy.proofs.Reading.{exit, kept_at, takes_later, takes_done, short_or_whole}
