@@ -5,7 +5,7 @@ program = crates/pgcopy/out/pgcopy
 bin = $(DESTDIR)$(PREFIX)/bin
 man1 = $(DESTDIR)$(PREFIX)/share/man/man1
 
-.PHONY: build test bench postgres-test install uninstall
+.PHONY: build test bench program-test postgres-test install uninstall
 
 build: $(program)
 
@@ -18,6 +18,9 @@ test:
 
 bench:
 	bench/run
+
+program-test:
+	tests/program/run
 
 postgres-test:
 	tests/postgres/run

@@ -1,6 +1,6 @@
 -- What the words of a command line ask for: the limits, and the types of the columns to copy, or the first thing that
 -- is wrong.
-use Rattle.std.specs.Prelude.{ℕ, ◌+◌, ◌==◌, ◌&&◌, ◌||◌, List, [], ◌∷◌, ◌++◌, length, drop, map, String, string_bytes, codes, Option, None, Some, is_none, is_some, option_map, Result, Ok, Err, Bool, nat_lt, nat_le, if◌then◌else◌}
+use Rattle.std.specs.Prelude.{ℕ, ◌+◌, ◌==◌, ◌&&◌, ◌||◌, List, [], ◌∷◌, ◌++◌, length, drop, map, String, string_bytes, codes, Option, None, Some, is_none, is_some, option_map, Result, Ok, Err, Bool, false, nat_lt, nat_le, if◌then◌else◌}
 use Rattle.std.specs.List.{filter_map, starts_with, list_all}
 use Rattle.std.specs.Option.{option_or, option_and_then, option_map_or}
 use Rattle.std.specs.Result.{result_err}
@@ -109,3 +109,12 @@ plan_of_texts (command ∷ words) = if bytes_eq command (codes "copy") then plan
 -- what the words ask for: the command `copy`, then options, and then a type for each column
 abbrev pub plan_of : {A : Type 0} → List (String A) → Result PlanData PlacedFault
 plan_of words = plan_of_texts (map string_bytes words)
+
+-- Words that ask what the program is, and for no command: one of these three alone.
+abbrev pub asks_about_texts : List (List ℕ) → Bool
+asks_about_texts [] = false
+asks_about_texts (word ∷ []) = bytes_eq word (codes "--help") || bytes_eq word (codes "-h") || bytes_eq word (codes "--version")
+asks_about_texts (word ∷ other ∷ words) = false
+
+abbrev pub asks_about : {A : Type 0} → List (String A) → Bool
+asks_about words = asks_about_texts (map string_bytes words)

@@ -1,6 +1,7 @@
 use crate::about::asked;
 use crate::edge::{copy, explain, tell};
 use crate::report::Status;
+use std::alloc::{AllocError, Global};
 use std::io::{Error, ErrorKind, Read, Result, Write};
 
 // a stream of one row, the number 42
@@ -37,15 +38,59 @@ impl Write for Full {
     }
 }
 
+/// A writer that takes one byte at a time.
+#[derive(Drop)]
+struct Slow<'a> {
+    output: &'a mut Vec<u8>,
+}
+
+impl Write for Slow<'_> {
+    fn write(&mut self, buf: &[u8]) -> Result<usize> {
+        self.output.write(&buf[..buf.len().min(1)])
+    }
+
+    fn flush(&mut self) -> Result<()> {
+        Ok(())
+    }
+}
+
+/// A writer whose first write and first flush fail in these kinds, where there are some.
+#[derive(Drop)]
+struct FailsOnce<'a> {
+    write: Option<ErrorKind>,
+    flush: Option<ErrorKind>,
+    output: &'a mut Vec<u8>,
+}
+
+impl Write for FailsOnce<'_> {
+    fn write(&mut self, buf: &[u8]) -> Result<usize> {
+        match self.write.take() {
+            Some(kind) => Err(Error::from(kind)),
+            None => self.output.write(buf),
+        }
+    }
+
+    fn flush(&mut self) -> Result<()> {
+        match self.flush.take() {
+            Some(kind) => Err(Error::from(kind)),
+            None => Ok(()),
+        }
+    }
+}
+
+/// The words as texts.
+fn words_of(alloc: Global, words: &[&str]) -> std::result::Result<Vec<String>, AllocError> {
+    let mut texts = Vec::new(alloc);
+    for word in words {
+        texts.push(String::from_str(alloc, word)?)?;
+    }
+    Ok(texts)
+}
+
 #[test]
 fn what_came_of_a_copy_is_told(rt: HostRuntime) {
     let alloc = rt.alloc();
-    let mut words = Vec::new(alloc);
-    for word in ["copy", "int4"] {
-        words
-            .push(String::from_str(alloc, word).expect(&rt, "memory"))
-            .expect(&rt, "memory");
-    }
+    let words = words_of(alloc, &["copy", "int4"]).expect(&rt, "memory");
     let table: [(&[u8], Status, &[u8]); 2] = [
         (ONE_ROW, Status::Copied, b"rows 1\n"),
         (&ONE_ROW[..29], Status::Refused, b"truncated\n"),
@@ -76,7 +121,10 @@ fn why_there_was_no_run_is_told(rt: HostRuntime) {
     ];
     for (kind, line) in table {
         let mut errors = Vec::<u8>::new(rt.alloc());
-        explain(&Error::from(kind), &mut errors);
+        let writer = Slow {
+            output: &mut errors,
+        };
+        explain(&Error::from(kind), writer);
         assert_eq!(rt; errors.as_slice(), line);
     }
 }
@@ -92,12 +140,7 @@ fn help_is_asked_for_by_one_word(rt: HostRuntime) {
         (&[], ""),
     ];
     for (given, begin) in table {
-        let mut words = Vec::new(alloc);
-        for word in given {
-            words
-                .push(String::from_str(alloc, word).expect(&rt, "memory"))
-                .expect(&rt, "memory");
-        }
+        let words = words_of(alloc, given).expect(&rt, "memory");
         match asked(&words) {
             Some(text) => {
                 assert!(rt; text.starts_with(begin));
@@ -112,4 +155,73 @@ fn help_is_asked_for_by_one_word(rt: HostRuntime) {
     let mut errors = Vec::<u8>::new(alloc);
     tell("text", Full, &mut errors);
     assert_eq!(rt; errors.as_slice(), b"write fault\n".as_slice());
+}
+
+// A call that a signal interrupted is made again, and no other is.
+#[test]
+fn only_interrupted_calls_are_made_again(rt: HostRuntime) {
+    let alloc = rt.alloc();
+    let words = words_of(alloc, &["copy", "int4"]).expect(&rt, "memory");
+    let table: [(Option<ErrorKind>, Option<ErrorKind>, Status, &[u8]); 4] = [
+        (
+            Some(ErrorKind::Interrupted),
+            None,
+            Status::Copied,
+            b"rows 1\n",
+        ),
+        (
+            None,
+            Some(ErrorKind::Interrupted),
+            Status::Copied,
+            b"rows 1\n",
+        ),
+        (
+            Some(ErrorKind::WouldBlock),
+            None,
+            Status::Outside,
+            b"write fault\n",
+        ),
+        (
+            None,
+            Some(ErrorKind::BrokenPipe),
+            Status::Outside,
+            b"write fault\n",
+        ),
+    ];
+    for (write, flush, status, line) in table {
+        let mut output = Vec::<u8>::new(alloc);
+        let mut errors = Vec::<u8>::new(alloc);
+        let writer = FailsOnce {
+            write,
+            flush,
+            output: &mut output,
+        };
+        let ended = copy(alloc, &words, ONE_ROW, writer, &mut errors).expect(&rt, "memory");
+        assert_eq!(rt; ended, status);
+        assert_eq!(rt; errors.as_slice(), line);
+    }
+}
+
+// Both outputs are flushed behind a refusal, too: a flush that was made has used up its fault.
+#[test]
+fn outputs_are_flushed_whatever_came_of_it(rt: HostRuntime) {
+    let alloc = rt.alloc();
+    let words = words_of(alloc, &["copy", "int4"]).expect(&rt, "memory");
+    let mut output = Vec::<u8>::new(alloc);
+    let mut errors = Vec::<u8>::new(alloc);
+    let mut writer = FailsOnce {
+        write: None,
+        flush: Some(ErrorKind::BrokenPipe),
+        output: &mut output,
+    };
+    let mut line = FailsOnce {
+        write: None,
+        flush: Some(ErrorKind::BrokenPipe),
+        output: &mut errors,
+    };
+    let ended = copy(alloc, &words, &ONE_ROW[..29], &mut writer, &mut line).expect(&rt, "memory");
+    assert_eq!(rt; ended, Status::Refused);
+    assert!(rt; writer.flush.is_none());
+    assert!(rt; line.flush.is_none());
+    assert_eq!(rt; errors.as_slice(), b"truncated\n".as_slice());
 }

@@ -128,3 +128,21 @@ impl Pieces {
         Ok(())
     }
 }
+
+#[cfg(test)]
+mod tests {
+    use super::Pieces;
+    use crate::CopyReadError;
+    use pgw_wire::QuietSource;
+
+    // A piece that states 2147483647 bytes and holds three.
+    #[test]
+    fn room_follows_what_was_taken(rt: HostRuntime) {
+        let bytes = Vec::from_slice(rt.alloc(), b"abc").expect(&rt, "memory");
+        let mut source = QuietSource::new(bytes);
+        let mut pieces = Pieces::new(rt.alloc());
+        let taken = pieces.take(&mut source, 2147483647);
+        assert_eq!(rt; taken, Err(CopyReadError::Truncated));
+        assert!(rt; pieces.bytes.capacity() <= 3 + 65536);
+    }
+}

@@ -162,3 +162,20 @@ impl RowBuffer {
         }
     }
 }
+
+#[cfg(test)]
+mod tests {
+    use super::RowBuffer;
+    use pgw_wire::QuietSource;
+
+    #[test]
+    fn nothing_is_kept_of_the_row_before(rt: HostRuntime) {
+        let bytes = Vec::from_slice(rt.alloc(), b"\0\0\0\x03abc\0\0\0\x02de").expect(&rt, "memory");
+        let mut source = QuietSource::new(bytes);
+        let mut row = RowBuffer::new(rt.alloc());
+        row.take_fields(1, &mut source).expect(&rt, "a row");
+        assert_eq!(rt; row.bytes.len(), 3);
+        row.take_fields(1, &mut source).expect(&rt, "a row");
+        assert_eq!(rt; row.bytes.len(), 2);
+    }
+}
