@@ -1,4 +1,4 @@
-ghost use Rattle.std.specs.Prelude.{◌≡◌, ◌+◌, ◌-◌, ◌≤◌, [], ◌++◌, length, take, drop, OnOk};
+ghost use Rattle.std.specs.Prelude.{◌≡◌, ◌+◌, ◌-◌, ◌<◌, ◌≤◌, [], ◌++◌, length, take, drop, OnOk};
 ghost use Rattle.pgw_wire.specs.Outside.{HasFailed};
 ghost use Rattle.pgw_copy.specs.Reader.{Takes, kept_fault, IsShort, HasSize};
 
@@ -83,9 +83,10 @@ impl Pieces {
         &self.bytes[start..end]
     }
 
-    /// Takes the next `next` bytes, and appends them.
+    /// Takes the next `next` bytes, one at least, and appends them.
     fn append<S: Source>(&mut self, source: &mut S, next: usize) -> Result<(), CopyReadError>
-        requires { next ≤ 65536 }
+        requires some { 0 < next }
+        requires step { next ≤ 65536 }
         ensures takes { Takes (S.left source.old) (S.left source.new)
             (HasFailed (S.fault_count source.old) (S.fault_count source.new))
             result

@@ -9,9 +9,8 @@ use pgw_wire::{Source, take_u32};
 /// How many bytes are passed over at once where they are many.
 const CHUNK: usize = 512;
 
-/// Fills the buffer with the next bytes of the source.
-#[inline(always)]
-pub(crate) fn fill<S: Source>(source: &mut S, buf: &mut [u8]) -> Result<(), CopyReadError>
+/// Fills the buffer with the next bytes of the source, by as many reads as it wants.
+fn fill_by_reads<S: Source>(source: &mut S, buf: &mut [u8]) -> Result<(), CopyReadError>
     ensures takes { Takes (S.left source.old) (S.left source.new)
         (HasFailed (S.fault_count source.old) (S.fault_count source.new))
         result (λ _ taken. taken ≡ buf.new) (cut_fault (IsShort (length buf.old))) }
@@ -27,6 +26,26 @@ pub(crate) fn fill<S: Source>(source: &mut S, buf: &mut [u8]) -> Result<(), Copy
         }
     }
     Ok(())
+}
+
+/// Fills the buffer, which is not empty, with the next bytes of the source.
+///
+/// Mostly one read does. Where this is inlined, and the buffer's length is known there, so is that of what is copied.
+#[inline(always)]
+pub(crate) fn fill<S: Source>(source: &mut S, buf: &mut [u8]) -> Result<(), CopyReadError>
+    requires { 0 < length buf.old }
+    ensures takes { Takes (S.left source.old) (S.left source.new)
+        (HasFailed (S.fault_count source.old) (S.fault_count source.new))
+        result (λ _ taken. taken ≡ buf.new) (cut_fault (IsShort (length buf.old))) }
+    ensures faults { S.fault_count source.old ≤ S.fault_count source.new }
+    ensures origin { S.origin source.new ≡ S.origin source.old }
+{
+    match source.read(buf) {
+        Ok(n) if n == buf.len() => Ok(()),
+        Ok(0) => Err(CopyReadError::Truncated),
+        Ok(n) => fill_by_reads(source, &mut buf[n..]),
+        Err(_) => Err(CopyReadError::ReadFault),
+    }
 }
 
 /// Takes the next `len` bytes and keeps none of them.

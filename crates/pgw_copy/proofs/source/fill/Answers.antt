@@ -1,37 +1,22 @@
-use Rattle.std.proofs.Common.{rules, ◌≡◌, Ok, [], length, ◌++◌, take, arith, length-append, length-drop, refl, sym, ap, ◌∙◌}
-use Rattle.std.proofs.lemmas.List.{length-take-le, take_all}
-use Rattle.pgw_wire.proofs.Taking.{took_then, took_weaker, took_consumed, took_kept}
-use Rattle.pgw_copy.specs.declared.fault.CopyReadError.TheVariants.{Truncated, ReadFault}
-use Rattle.pgw_copy.proofs.Lists.{filled_more}
-use Rattle.pgw_copy.proofs.Reading.{takes_done, takes_error}
+use Rattle.std.proofs.Common.{rules, ◌≡◌, ℕ, ◌-◌, ◌≤◌, List, [], ◌++◌, length, take, drop, arith, length-take, length-drop, append-nil, refl, sym, ap, ◌∙◌}
+use Rattle.std.proofs.Math.ListN.{drop_of_length-le}
+use borrow.Rule.Slice.PartMut.{put_mid, post_of}
+use Rattle.pgw_wire.proofs.Taking.{took_consumed}
+use Rattle.pgw_copy.proofs.Reading.{takes_then, short_later}
 use Rattle.pgw_copy.proofs.source.fill.Goals as goal
 
-pub returns-in-Ok-eq0-clause-takes : goal.returns-in-Ok-eq0-clause-takes
-returns-in-Ok-eq0-clause-takes g c =
-    takes_error Truncated _ _
-    (took_then c.loop-filled.invariant.took
-    (took_consumed _ _ (take c.in-Ok-eq0.field-0 c.read.new.buf) (λ taken. length taken ≡ 0) (search rules) (ap (λ n. length (take n c.read.new.buf)) c.in-Ok-eq0.field-0-test))
-    (λ x y e none. omega (arith, none, ap length e, length-append x y, length-take-le c.loop-filled.filled c.loop-filled.buf (omega arith))))
-    (λ _. c.in-Ok-eq0.ensures.end (ap Ok c.in-Ok-eq0.field-0-test) (omega (arith, length-drop c.loop-filled.filled c.loop-filled.buf, c.read.auto.buf)))
-    (λ h. absurd (cc))
+-- what came first, and the rest of a buffer
+filled_rest : (n : ℕ) (xs ys : List ℕ) → n ≤ length xs → put_mid n (length xs - n) xs ys ≡ take n xs ++ ys
+filled_rest n xs ys within =
+    let none : post_of n (length xs - n) xs ≡ [] = drop_of_length-le (drop n xs) (omega (arith, within, length-drop n xs)) in
+    ap (λ l. take n xs ++ (ys ++ l)) none ∙ ap (λ l. take n xs ++ l) (append-nil ys)
 
-pub loop-filled-preserved : goal.loop-filled-preserved
-loop-filled-preserved g c = record {
-  within = search rules;
-  took = took_then c.loop-filled.invariant.took (took_consumed _ _ (take c.in-Ok.n c.read.new.buf) (λ taken. taken ≡ take c.in-Ok.n c.read.new.buf) (search rules) refl)
-      (λ x y e f. ap (λ l. l ++ y) e ∙ ap (λ l. take c.loop-filled.filled c.loop-filled.buf ++ l) f ∙ sym (filled_more _ _ _ _ _ (omega arith) (omega (arith, c.in-Ok.ensures.within, c.read.auto.buf))));
-  faults = search rules;
-  origin = search rules;
-}
-
-pub returns-in-Err-clause-takes : goal.returns-in-Err-clause-takes
-returns-in-Err-clause-takes g c =
-    takes_error ReadFault _ _
-    (took_then c.loop-filled.invariant.took (took_kept _ _ (λ taken. taken ≡ []) (search rules) refl)
-    (λ x y e none. omega (arith, ap length none, ap length e, length-append x y, length-take-le c.loop-filled.filled c.loop-filled.buf (omega arith))))
-    (λ h. absurd (cc))
-    (λ _. search rules)
-
-pub returns-clause-takes : goal.returns-clause-takes
-returns-clause-takes g c =
-    takes_done _ _ _ (took_weaker c.loop-filled.invariant.took (λ x e. e ∙ take_all _ _ (omega arith)))
+pub returns-in-Ok-2-clause-takes : goal.returns-in-Ok-2-clause-takes
+returns-in-Ok-2-clause-takes g c =
+    let n = c.in-Ok.n in
+    let buf = c.read.new.buf in
+    let within : n ≤ length buf = omega (arith, c.in-Ok.ensures.within, c.read.auto.buf) in
+    let first = took_consumed _ _ (take n buf) (λ taken. taken ≡ take n buf) (search rules) refl in
+    takes_then _ _ first c.fill_by_reads.ensures.takes (λ f. omega (arith, f, c.in-Ok.ensures.faults))
+    (λ _ x y e is. ap (λ l. l ++ y) e ∙ ap (λ l. take n buf ++ l) is ∙ sym (filled_rest n buf c.fill_by_reads.new.buf within))
+    (λ d x y e. short_later d x y _ _ (omega (arith, ap length e, within, length-take n buf, length-take (length buf - n) (drop n buf), length-drop n buf, c.read.auto.buf)))
