@@ -1,4 +1,6 @@
-ghost use Rattle.std.specs.Prelude.{◌≡◌, ◌≢◌, ◌↔◌, IfOk, IfErr, IsErr};
+ghost use Rattle.std.specs.Prelude.{◌≡◌, ◌≢◌, ◌↔◌, ◌⊎◌, List, ℕ, Some, IfOk, IfErr, IsErr, IsOkAnd};
+ghost use Rattle.pgw_wire.specs.Outside.{HasFront};
+ghost use Rattle.pgw_tree.specs.Stream.{IsValidStream};
 ghost use Rattle.std.specs.Io.{ReadsAtMost, WritesAtMost};
 ghost use Rattle.std.specs.Io.KnownBytes.{Keeps, ReadConsumes, WriteAppends};
 ghost use Rattle.std.specs.IoError.{error_kind};
@@ -101,6 +103,12 @@ pub fn copy<I: Read + Drop, O: Write + Drop, E: Write + Drop>(
     errors: E,
 ) -> io::Result<Status>
     ensures words { IfOk result (λ status. (status ≡ Status.Words) ↔ IsErr (plan_of words.now)) }
+    ensures copied { IfOk result (λ status. status ≡ Status.Copied → IsOkAnd (plan_of words.now) (λ plan.
+        (left : List ℕ) → I.remaining input ≡ Some left → HasFront (Some left) (IsValidStream plan.limits plan.columns))) }
+    ensures complete { IfOk result (λ status. IfOk (plan_of words.now) (λ plan.
+        HasFront (I.remaining input) (IsValidStream plan.limits plan.columns)
+        → (status ≡ Status.Copied) ⊎ (status ≡ Status.Outside) ⊎ (status ≡ Status.NoMemory))) }
+    ensures known { IfOk result (λ status. status ≢ Status.UnknownType) }
     ensures no_memory { IfErr result (λ e. error_kind e ≡ ErrorKind.OutOfMemory) }
 {
     let reader = BufReader::with_capacity(alloc, KEPT, Retrying { inner: input })?;
