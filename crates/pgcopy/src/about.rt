@@ -14,8 +14,8 @@ Each TYPE is the type of one column: int4, int4?, text or text?. A field of a
 column with a ? may be null.
 
 options, in front of the types, each at most once:
-  rows=N   copy at most N rows, up to 18446744073709551615
-  field=N  copy fields of at most N bytes, up to 2147483647
+  rows=N   refuse a stream of more than N rows, N up to 18446744073709551615
+  field=N  refuse a field of more than N bytes, N up to 2147483647
 
 exit status:
   0  the whole stream was copied

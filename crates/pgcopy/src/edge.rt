@@ -21,7 +21,7 @@ const KEPT: usize = 65536;
 /// How many bytes of a line are kept: more than any line has.
 const LINE: usize = 256;
 
-/// A reader or a writer whose calls are made again where a signal interrupted them. It gives up after 2^64 tries.
+/// A reader or a writer whose calls are made again where a signal interrupted them. It gives up after 2^64 - 1 tries.
 #[derive(Drop)]
 struct Retrying<T> {
     inner: T,

@@ -26,7 +26,7 @@ pub record IsHeader (bytes : List ℕ) : Type 0 where
 abbrev pub canonical_header : List ℕ
 canonical_header = magic ++ to_be_bytes w32 0 ++ to_be_bytes w32 0
 
--- the beginning of a header that ends too early: within its first 19 bytes, or within the extension
+-- a header that is cut short: fewer than 19 bytes, whatever they are; or the first 19, and fewer than the extension has
 abbrev pub IsCutHeader : List ℕ → Type 0
 IsCutHeader bytes = (length bytes < 19) ⊎ ((fixed : List ℕ) × (rest : List ℕ) × (extension : ℕ) × IsFixedHeader fixed extension × (bytes ≡ fixed ++ rest) × (length rest < extension))
 

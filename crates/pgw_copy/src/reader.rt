@@ -75,7 +75,7 @@ impl CopyReader {
     ///
     /// | error | what was taken |
     /// |---|---|
-    /// | `BadHeader` | 19 bytes that begin with other bytes than a stream, or behind these and flags whose high half is 0 state a negative length of the extension |
+    /// | `BadHeader` | 19 bytes that do not begin as a stream does; or that do, and behind flags whose high half is 0 state a negative length of the extension |
     /// | `BadFlags` | 19 bytes that begin as a stream does, and flags with a bit of their high half set |
     /// | `Truncated` | all that was left: fewer than 19 bytes, or the first 19 of a header and less than its extension |
     /// | `ReadFault` | such bytes as for `Truncated`; the source failed behind them |

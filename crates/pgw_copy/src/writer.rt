@@ -22,7 +22,7 @@ const TRAILER: [u8; 2] = [0xff; 2];
 /// ends them. One row at a time is made in its buffer.
 ///
 /// At a `Failed` the sink has gained a front of what the call writes, and nothing else; called again, it writes from the
-/// first byte again. The order of the calls is the caller's, and so is it that as many fields follow a count as it says.
+/// first byte again. It is for the caller to make the calls in order, and to put as many fields behind a count as it says.
 #[derive(Drop)]
 pub struct CopyWriter {
     row: ByteBuffer,
@@ -77,7 +77,7 @@ impl CopyWriter {
         send(sink, &HEADER)
     }
 
-    /// Drops what the buffer has and puts the row's count of columns there, two bytes, big-endian. The one error is a
+    /// Drops what the buffer has and puts the row's count of columns there, at most 32767, two bytes, big-endian. The one error is a
     /// refusal of memory, and behind it the buffer is as before.
     pub fn begin_row(&mut self, columns: u16) -> Result<(), NoMemory>
         requires few { columns ≤ 32767 }

@@ -49,7 +49,7 @@ fn copy_stream<S: Source, K: Sink>(
     Ok(rows)
 }
 
-/// Copies a stream of rows of these column types, as the manual's page COPY has it under "Binary Format": at Ok the
+/// Copies a stream of rows of these column types, 1 to 32767 of them, as the manual's page COPY has it under "Binary Format": at Ok the
 /// bytes taken are one stream of as many rows as it answers, through the count -1 that ends it, and the bytes written
 /// are the canonical stream of the same rows. Fields behind the last column are read and ignored.
 ///

@@ -77,7 +77,7 @@ impl ByteBuffer {
         self.spare -= piece.len();
     }
 
-    /// Writes the number, big-endian, over the four bytes at `place`. Nothing else changes.
+    /// Writes the number, big-endian, over the four bytes at `place`, which have to be there. Nothing else changes.
     pub fn patch_u32(&mut self, place: usize, value: u32)
         requires { place + 4 ≤ length self.old.bytes }
         ensures bytes { self.new.bytes ≡ overwritten self.old.bytes place (to_be_bytes w32 value) }
@@ -86,7 +86,7 @@ impl ByteBuffer {
         self.bytes[place..place + 4].copy_from_slice(&value.to_be_bytes());
     }
 
-    /// Drops the bytes behind the first `len` and keeps their room.
+    /// Drops the bytes behind the first `len`, of which there have to be as many, and keeps their room.
     pub fn truncate(&mut self, len: usize)
         requires { len ≤ length self.old.bytes }
         ensures bytes { self.new.bytes ≡ take len self.old.bytes }

@@ -110,7 +110,7 @@ impl Model for MemorySink {
 
 impl MemorySink {
     /// A sink that has gained nothing and is settled. Its call with number k, counted from 0 over writes and
-    /// flushes, fails exactly where k is in `fails`. The call that is the i-th to succeed takes, where it is a
+    /// flushes, fails where k is in `fails`, and else only as a write that is refused memory. The call that is the i-th to succeed takes, where it is a
     /// write, at most `cuts[i]` bytes, where 0 counts as 1, and behind the list the whole piece.
     pub fn new(alloc: Global, cuts: Vec<usize>, fails: Vec<u64>) -> MemorySink
         ensures { result ≡ record { gained = []; settled = true; course = course_of cuts.items fails.items } }

@@ -19,7 +19,7 @@ pub trait Source {
     ghost origin: { Self → Origin };
 
     /// Reads some of the bytes to the front of `buf`, and answers how many. It answers 0 only at the end or where
-    /// `buf` is empty.
+    /// `buf` is empty. `Failed` comes only where the count of faults rises, and leaves the bytes and `buf`.
     fn read(&mut self, buf: &mut [u8]) -> Result<usize, Failed>
         ensures within { IfOk result (λ n. n ≤ length buf.old) }
         ensures taken { IfOk result (λ n. Consumes (left self.old) (left self.new) (take n buf.new)) }
@@ -53,7 +53,7 @@ pub trait Sink {
     ghost origin: { Self → Origin };
 
     /// Takes the front of the piece, one byte at least, and answers how many bytes it took. Of an empty piece it
-    /// takes none.
+    /// takes none. `Failed` comes only where the count of faults rises, and nothing was taken then.
     fn write(&mut self, piece: &[u8]) -> Result<usize, Failed>
         ensures within { IfOk result (λ n. n ≤ length piece.now) }
         ensures progress { 0 < length piece.now → IfOk result (λ n. 0 < n) }
@@ -65,7 +65,7 @@ pub trait Sink {
         ensures faults { fault_count self.old ≤ fault_count self.new }
         ensures origin { origin self.new ≡ origin self.old };
 
-    /// Settles what it got.
+    /// Settles what it got. `Failed` comes only where the count of faults rises, and leaves it as it was.
     fn flush(&mut self) -> Result<(), Failed>
         ensures gained { Keeps (gained self.old) (gained self.new) }
         ensures ok { OnOk result (settled self.new ≡ option_map (λ _. true) (settled self.old)) }
