@@ -1,6 +1,7 @@
 -- What a sink gained, call by call, and whether that is settled.
-use Rattle.std.proofs.Common.{◌≡◌, ℕ, zero, suc, ◌<◌, Bool, false, cond, eqb, List, [], ◌++◌, length, length-append, take, drop, ◌+◌, rules, arith, subst, Option, None, Some, refl, sym, ap, ◌∙◌, append_assoc, append-nil}
+use Rattle.std.proofs.Common.{◌≡◌, ℕ, zero, suc, ◌<◌, ◌≤◌, Bool, false, cond, eqb, List, [], ◌++◌, length, length-append, take, drop, ◌+◌, rules, arith, subst, Option, None, Some, refl, sym, ap, ◌∙◌, append_assoc, append-nil}
 use Rattle.std.proofs.Math.Seq.{take-add}
+use Rattle.std.proofs.lemmas.List.{length-take}
 use Rattle.std.specs.Prelude.{option_map}
 use Rattle.std.specs.Io.KnownBytes.{Appends, Keeps}
 use Rattle.pgw_wire.specs.Outside.{settled_after, Wrote}
@@ -66,3 +67,10 @@ wrote_kept {a = a} {b = b} {c = c} {x = x} w k same = record { appends = appends
 -- A longer front of the piece was written.
 pub wrote_more : {a b c : Option (List ℕ)} {s t u : Option Bool} (piece : List ℕ) (sent n : ℕ) → Wrote a b s t (take sent piece) → Wrote b c t u (take n (drop sent piece)) → Wrote a c s u (take (sent + n) piece)
 wrote_more {a = a} {c = c} {s = s} {u = u} piece sent n w v = subst (λ (l : List ℕ). Wrote a c s u l) (sym (take-add sent n piece)) (wrote_then w v)
+
+-- what a write that succeeds has written
+pub wrote_front : {a b : Option (List ℕ)} {s t : Option Bool} (bytes piece : List ℕ) (n : ℕ) → n ≤ length piece → piece ≡ bytes → Appends a b (take n piece) → t ≡ settled_after n s → Wrote a b s t (take n bytes)
+wrote_front {a = a} {b = b} {s = s} bytes piece n within is added settles = rw (← is) record {
+  appends = added;
+  settles = settles ∙ ap (λ k. settled_after k s) (omega (arith, within, length-take n piece));
+}

@@ -1,5 +1,6 @@
 -- What the calls of a source or a sink leave, in words that both traits share.
-use Rattle.std.specs.Prelude.{ℕ, ◌≡◌, ◌+◌, ◌-◌, ◌^◌, ◌≤◌, ◌==◌, ◌++◌, Bool, false, List, length, Option, Some, option_map, min, if◌then◌else◌}
+use Rattle.std.specs.Prelude.{ℕ, ◌≡◌, ◌+◌, ◌-◌, ◌^◌, ◌≤◌, ◌==◌, ◌++◌, Bool, false, List, length, take, Option, Some, IfSome, option_map, min, if◌then◌else◌}
+use Rattle.std.specs.Io.{StartsWith}
 use Rattle.std.specs.Io.KnownBytes.{Appends, Consumes}
 
 -- one more, where the count stops at the largest u64
@@ -27,6 +28,12 @@ pub record Took (before now : Option (List ℕ)) (P : List ℕ → Type 0) : Typ
   pub taken : List ℕ
   pub consumed : Consumes before now taken
   pub has : P taken
+
+-- These bytes stood in front of what was left, where that is told, and the first n of them were taken.
+pub record TookReady (before now : Option (List ℕ)) (ready : List ℕ) (n : ℕ) : Type 0 where
+  pub within : n ≤ length ready
+  pub front : IfSome before (λ left. StartsWith left ready)
+  pub consumed : Consumes before now (take n ready)
 
 -- It is told what is left, and some front of that has P.
 pub record HasFront (before : Option (List ℕ)) (P : List ℕ → Type 0) : Type 0 where

@@ -2,7 +2,7 @@ ghost use Rattle.std.specs.Prelude.{◌≡◌, ◌<◌, ◌≤◌, ◌++◌, len
 ghost use Rattle.std.specs.Io.KnownBytes.{Consumes, Keeps, IsAtEnd};
 ghost use Rattle.pgw_wire.specs.Outside.{HasFailed};
 
-use crate::{Failed, Sink, Source};
+use crate::{Failed, Sink, Source, Taker};
 use std::io::{BufRead, Read, Write};
 
 const SCRATCH: usize = 4096;
@@ -148,6 +148,21 @@ impl<R: BufRead> Source for BufReadSource<R> {
 
     fn faults(&self) -> u64 {
         self.faults
+    }
+
+    #[inline(always)]
+    fn show<K, T: Taker<K>>(&mut self, taker: &mut T, to: &mut K) -> Result<bool, Failed> {
+        match self.inner.fill_buf() {
+            Ok(ready) => {
+                let taken = taker.look(to, ready);
+                self.inner.consume(taken);
+                Ok(true)
+            }
+            Err(_) => {
+                self.faults = self.faults.saturating_add(1);
+                Err(Failed)
+            }
+        }
     }
 }
 

@@ -12,6 +12,7 @@ mod kind;
 mod memory;
 mod outside;
 mod quiet;
+mod sending;
 
 pub use buffer::ByteBuffer;
 pub use cell::RawCell;
@@ -20,8 +21,9 @@ pub use error::{Failed, NoMemory};
 pub use io::{BufReadSource, ReadSource, WriteSink};
 pub use kind::Break;
 pub use memory::{MemorySink, MemorySource};
-pub use outside::{Sink, Source};
+pub use outside::{Sink, Source, Taker};
 pub use quiet::{QuietSink, QuietSource};
+pub use sending::send;
 
 #[cfg(test)]
 mod tests;

@@ -1,6 +1,6 @@
-ghost use Rattle.std.specs.Prelude.{◌≡◌, ℕ, ◌+◌, ◌<◌, ◌≤◌, Bool, true, List, length, take, drop, Option, option_map, Result, IfOk, OnOk, OnErr};
+ghost use Rattle.std.specs.Prelude.{◌≡◌, ℕ, ◌+◌, ◌<◌, ◌≤◌, Bool, true, false, Ok, List, length, take, drop, Option, option_map, Result, IfOk, OnOk, OnErr};
 ghost use Rattle.std.specs.Io.KnownBytes.{Appends, Consumes, IsAtEnd, Keeps};
-ghost use Rattle.pgw_wire.specs.Outside.{HasFailed, settled_after};
+ghost use Rattle.pgw_wire.specs.Outside.{HasFailed, TookReady, settled_after};
 
 use crate::Failed;
 
@@ -34,6 +34,35 @@ pub trait Source {
     /// How many calls failed so far.
     fn faults(&self) -> u64
         ensures { result ≡ fault_count self.now };
+
+    /// Shows the taker bytes that stand ready in front of what is left, and takes as many of them as it answers. A source
+    /// with no such bytes answers false, and then nothing changes. `Failed` comes only where the count of faults rises, and
+    /// leaves all as it was.
+    fn show<K, T: Taker<K>>(&mut self, taker: &mut T, to: &mut K) -> Result<bool, Failed>
+        ensures shown { result ≡ Ok true → (ready : List ℕ) × (n : ℕ)
+            × TookReady (left self.old) (left self.new) ready n
+            × T.takes taker.old to.old ready n taker.new to.new }
+        ensures none { result ≡ Ok false
+            → Keeps (left self.old) (left self.new) × (taker.new ≡ taker.old) × (to.new ≡ to.old) }
+        ensures err { OnErr result (Keeps (left self.old) (left self.new) × (taker.new ≡ taker.old) × (to.new ≡ to.old)) }
+        ensures failed { OnErr result (HasFailed (fault_count self.old) (fault_count self.new)) }
+        ensures faults { fault_count self.old ≤ fault_count self.new }
+        ensures origin { origin self.new ≡ origin self.old }
+    {
+        Ok(false)
+    }
+}
+
+/// Looks at bytes that stand ready in a source, makes of them what it will, and says how many of them are taken.
+pub trait Taker<K> {
+    /// What a look leaves: the taker and what it works on before, the bytes that were ready, how many of them are taken, and
+    /// the taker and what it works on behind.
+    ghost takes: { Self → K → List ℕ → ℕ → Self → K → Type 0 };
+
+    /// Looks at the bytes, works on `to`, and answers how many of the bytes, from the first, are taken.
+    fn look(&mut self, to: &mut K, ready: &[u8]) -> usize
+        ensures within { result ≤ length ready.now }
+        ensures takes { takes self.old to.old ready.now result self.new to.new };
 }
 
 /// Where bytes go.

@@ -1,7 +1,7 @@
 ghost use Rattle.std.specs.Prelude.{◌≡◌, ◌+◌, ◌-◌, ◌^◌, ◌++◌, None, Some, Ok, IfOk, length, min, take, drop};
 
 use crate::memory::copy_front;
-use crate::{Failed, Sink, Source};
+use crate::{Failed, Sink, Source, Taker};
 use std::marker::Model;
 
 /// A source of bytes in memory that never fails and gives as many as fit.
@@ -52,6 +52,12 @@ impl Source for QuietSource {
 
     fn faults(&self) -> u64 {
         0
+    }
+
+    #[tactic(auto, using(std::proofs::lemmas::Grind::common_steps, crate::proofs::Lists::drop_more))]
+    fn show<K, T: Taker<K>>(&mut self, taker: &mut T, to: &mut K) -> Result<bool, Failed> {
+        self.taken += taker.look(to, &self.bytes[self.taken..]);
+        Ok(true)
     }
 }
 
