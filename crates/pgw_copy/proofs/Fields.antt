@@ -1,5 +1,5 @@
 -- The fields of a row, taken apart.
-use Rattle.std.proofs.Common.{◌≡◌, ℕ, ◌<◌, ◌≤◌, ◌^◌, List, [], ◌∷◌, ◌++◌, length, None, Some, refl, sym, ap, ◌∙◌, arith, append_assoc, append-nil, length-append, subst, inl, inr, ◌⊎◌}
+use Rattle.std.proofs.Common.{◌≡◌, ℕ, ◌<◌, ◌≤◌, ◌^◌, List, [], ◌∷◌, ◌++◌, length, None, Some, refl, sym, ap, ◌∙◌, arith, append_assoc, append-nil, length-append, subst, inl, inr, ◌⊎◌, lit<}
 use Rattle.std.proofs.Math.Nat.{eq-or-lt_of_le}
 use Rattle.std.specs.Int.{to_be_bytes, w32}
 use Rattle.pgw_wire.specs.Cell.{Cell}
@@ -119,3 +119,14 @@ whole_fields count cells c x y more each field = by_number (eq-or-lt_of_le withi
     by_number : (length (cells ++ (c ∷ [])) ≡ count) ⊎ (length (cells ++ (c ∷ [])) < count) → AreCutFields count (x ++ y) ⊎ AreWholeFields count (x ++ y)
     by_number (inl many) = inr (cells ++ (c ∷ []), many, all)
     by_number (inr fewer) = inl (subst (λ (l : List ℕ). AreCutFields count l) (append-nil (x ++ y)) (cut_fields count (cells ++ (c ∷ [])) (x ++ y) [] fewer all (short_field [] (omega arith))))
+
+-- Where nothing was taken, no field is whole, or none had to come.
+pub no_fields : (count : ℕ) → AreCutFields count [] ⊎ AreWholeFields count []
+no_fields count = by_number (eq-or-lt_of_le within)
+  where
+    within : 0 ≤ count
+    within = omega arith
+
+    by_number : (0 ≡ count) ⊎ (0 < count) → AreCutFields count [] ⊎ AreWholeFields count []
+    by_number (inl none) = inr ([], none, refl)
+    by_number (inr some) = inl (cut_fields count [] [] [] some refl (short_field [] (lit< tt)))

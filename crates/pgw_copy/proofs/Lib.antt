@@ -4,5 +4,4 @@ pub mod Headers
 pub mod Fields
 pub mod Places
 pub mod Reading
-pub mod Sending
 pub mod Worked

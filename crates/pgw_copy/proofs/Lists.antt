@@ -1,6 +1,7 @@
 -- Facts on lists: what fills a buffer, and what one list begins with.
 use Rattle.std.proofs.Common.{◌≡◌, ℕ, ◌+◌, ◌-◌, ◌≤◌, List, ◌++◌, length, take, drop, sym, ap, ◌∙◌, arith, length-append}
 use Rattle.std.proofs.Math.Seq.{take-append_seam, drop-append_seam, take-append-add}
+use Rattle.std.proofs.lemmas.Grind.{common_steps}
 use Rattle.std.proofs.lemmas.List.{take_all, take-append-le, length-take-le}
 use borrow.Rule.Slice.PartMut.{put_mid, post_of}
 
@@ -10,6 +11,10 @@ filled_more a k n xs ys within fits =
     ap (λ j. take (j + n) (put_mid a k xs ys)) (sym (length-take-le a xs within))
     ∙ take-append-add (take a xs) (ys ++ post_of a k xs) n
     ∙ ap (λ l. take a xs ++ l) (take-append-le n ys (post_of a k xs) fits)
+
+-- the first n of some bytes in whose midst y was written
+pub take_two : (n len : ℕ) (x y z w : List ℕ) → n ≡ length x + length y → n ≤ len → take n (take len (x ++ (y ++ z) ++ w)) ≡ x ++ y
+take_two n len x y z w e within = grind (arith, common_steps)
 
 -- Two lists that begin with lists of one length begin with the same list, and go on alike.
 pub same_front : (a b x y : List ℕ) → length a ≡ length b → a ++ x ≡ b ++ y → a ≡ b

@@ -8,14 +8,12 @@ use Rattle.pgw_wire.specs.Outside.{Took}
 use Rattle.pgw_wire.proofs.Taking.{took_then, took_weaker}
 use Rattle.pgw_copy.specs.declared.fault.CopyReadError.{CopyReadError}
 use Rattle.pgw_copy.specs.declared.fault.CopyReadError.TheVariants.{BadHeader, BadFlags, Truncated, BadFieldCount, ReadFault, NoMemory}
-use Rattle.pgw_copy.specs.Reader.{Takes, cut_fault, kept_fault, IsShort, HasSize, count_fault, row_fault, AreCutFields, AreWholeFields}
+use Rattle.pgw_copy.specs.Reader.{Takes, cut_fault, kept_fault, IsShort, count_fault, row_fault, AreCutFields, AreWholeFields}
 use Rattle.pgw_copy.specs.Format.{AreFields, IsRow, IsCutRow, IsCount}
 use Rattle.pgw_wire.specs.Cell.{Cell}
 use Rattle.std.specs.Int.{to_be_bytes, w16}
 use Rattle.pgw_copy.proofs.Lists.{same_front, same_rest}
 use Rattle.pgw_copy.proofs.Numbers.{same_number_2}
-use Rattle.std.proofs.Math.Logic.{⊎_swap}
-use Rattle.std.proofs.Math.Nat.{eq-or-lt_of_le}
 
 along : {Z : Type 0} (R : Z → Type 0) {u v : Z} → u ≡ v → R u → R v
 along R e p = rw (← e) p
@@ -119,10 +117,6 @@ kept_at Cut Whole All AllWhole NoMemory last all cut whole (inr w) = whole w
 pub short_later : (e : CopyReadError) (first second : List ℕ) (size all : ℕ) → length first + size ≤ all → cut_fault (IsShort size) e second → cut_fault (IsShort all) e (first ++ second)
 short_later e first second size all within h =
     cut_at (IsShort size) (IsShort all) e second (first ++ second) (λ short. omega (arith, within, short, length-append first second)) h
-
--- Bytes that are no more than were asked for are short of that, or all of it.
-pub short_or_whole : (size : ℕ) (bytes : List ℕ) → length bytes ≤ size → IsShort size bytes ⊎ HasSize size bytes
-short_or_whole size bytes within = ⊎_swap (eq-or-lt_of_le within)
 
 -- What was taken is tested.
 pub takes_tested : {X : Type 0} {a b : Option (List ℕ)} {F : Type 0} {P1 : List ℕ → Type 0} (r : Result X CopyReadError) (P : X → List ℕ → Type 0) (Fault : CopyReadError → List ℕ → Type 0)

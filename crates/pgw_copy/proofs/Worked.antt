@@ -2,6 +2,8 @@
 use Rattle.std.proofs.Common.{◌≡◌, ℕ, ℤ, pos, negsuc, List, [], ◌∷◌, ◌++◌, length, get_or, Some, None, refl, ap, ◌∙◌, inl, inr, lit<, lit≤, arith, sym, subst}
 use Rattle.std.specs.Int.{cast_signed, w16}
 use Rattle.pgw_copy.proofs.Numbers.{same_number_2}
+use Rattle.pgw_copy.specs.Places.{cells_at}
+use Rattle.pgw_copy.specs.declared.row.Place.TheVariants.{Null, Piece}
 use Rattle.pgw_copy.specs.Format.{magic, IsFixedHeader, IsHeader, IsCutHeader, IsField, AreFields, IsRow, IsCutRow}
 use Rattle.pgw_copy.specs.Reader.{IsBadHeader, HasNegativeExtension, HasHighFlags, IsBadCount, AreWholeFields, IsWholeRow, IsCutField, AreCutFields}
 use Rattle.pgw_copy.proofs.Fields.{short_field, short_piece, cut_fields}
@@ -124,6 +126,10 @@ whole_fields = (None ∷ Some (170 ∷ []) ∷ [], refl, two_fields)
 
 pub whole_row : IsWholeRow (0 ∷ 2 ∷ field_null ++ field_byte)
 whole_row = (None ∷ Some (170 ∷ []) ∷ [], record { fields = field_null ++ field_byte; few = lit< tt; each = two_fields; is = refl })
+
+-- As it is kept, the places of its cells are counted from the front of the row.
+pub kept_row : cells_at (0 ∷ 2 ∷ field_null ++ field_byte) (Null ∷ Piece 10 11 ∷ []) ≡ None ∷ Some (170 ∷ []) ∷ []
+kept_row = refl
 
 -- The count 0 is a row of no fields.
 pub empty_row : IsRow [] (0 ∷ 0 ∷ [])

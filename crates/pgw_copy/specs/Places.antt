@@ -1,7 +1,7 @@
--- How a row is kept: the bytes of its pieces, one behind the other, and where among them each cell lies.
-use Rattle.std.specs.Prelude.{ℕ, ◌-◌, ◌≤◌, List, map, take, drop, None, Some}
+-- How a row is kept: its bytes as they were taken, and where among them each cell lies.
+use Rattle.std.specs.Prelude.{ℕ, ◌-◌, ◌≤◌, List, map, take, drop, None, Some, refl}
 use Rattle.std.specs.List.{AllByRecursion}
-use Rattle.std.specs.Coded.{Coded, coded_list, coded_option, coded_ℕ}
+use Rattle.std.specs.Coded.{Coded, code_by, coded×, coded_list, coded_option, coded_ℕ}
 use Rattle.pgw_wire.specs.Cell.{Cell}
 use Rattle.pgw_copy.specs.declared.row.Place.{Place}
 use Rattle.pgw_copy.specs.declared.row.Place.TheVariants.{Null, Piece}
@@ -21,5 +21,11 @@ LiesIn size (Piece start end) = (start ≤ end) × (end ≤ size)
 abbrev pub AllLieIn : ℕ → List Place → Type 0
 AllLieIn size places = AllByRecursion (LiesIn size) places
 
-abbrev pub cells_code : Coded (List Cell)
-cells_code = coded_list (coded_option (coded_list coded_ℕ))
+-- what contracts see of a row that is kept
+pub record KeptRow : Type 0 where
+  pub cells : List Cell
+  pub bytes : List ℕ
+
+abbrev pub kept_row_code : Coded KeptRow
+kept_row_code =
+    code_by (List Cell × List ℕ) (coded× (coded_list (coded_option (coded_list coded_ℕ))) (coded_list coded_ℕ)) (λ r. (r.cells, r.bytes)) (λ p. record { cells = p.0; bytes = p.1 }) (λ _. refl)

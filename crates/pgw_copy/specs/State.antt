@@ -32,4 +32,8 @@ IsEnded r = (pending r ≡ None) × (is_over r ≡ true)
 
 -- the cells of a row that is lent
 abbrev pub cells_of : RawRow → List Cell
-cells_of r = r.row.now
+cells_of r = r.row.now.cells
+
+-- and its bytes as they were taken: its count and its fields
+abbrev pub bytes_of : RawRow → List ℕ
+bytes_of r = r.row.now.bytes

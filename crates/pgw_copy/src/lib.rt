@@ -3,10 +3,10 @@
 
 mod fault;
 mod header;
-mod pieces;
 mod reader;
 mod row;
 mod source;
+mod taken;
 #[cfg(test)]
 mod tests;
 mod writer;

@@ -1,4 +1,4 @@
-ghost use Rattle.std.specs.Prelude.{◌≡◌, ◌≢◌, ◌≤◌, ◌^◌, ◌<◌, List, ℕ, length, Option, None, Some, IsSome, IfOk, IfErr, OnOk, OnErr, is_none, option_map, false, true, MatchResult};
+ghost use Rattle.std.specs.Prelude.{◌≡◌, ◌≢◌, ◌≤◌, ◌^◌, ◌<◌, ◌++◌, List, ℕ, length, Option, None, Some, IsSome, IfOk, IfErr, OnOk, OnErr, is_none, option_map, false, true, MatchResult, IfSome};
 ghost use Rattle.std.specs.Borrow.{sem};
 ghost use Rattle.std.specs.Io.BufRead.{Rests};
 ghost use Rattle.std.specs.Int.{to_be_bytes, w16};
@@ -6,7 +6,7 @@ ghost use Rattle.pgw_wire.specs.Outside.{HasFailed, Took};
 ghost use Rattle.pgw_copy.specs.contracts.reader.CopyReader.{the_row};
 ghost use Rattle.pgw_copy.specs.Format.{IsHeader, IsCount, AreFields};
 ghost use Rattle.pgw_copy.specs.Reader.{Takes, kept_fault, header_fault, count_fault, row_fault, AreCutFields, AreWholeFields, IsRowOrEnd};
-ghost use Rattle.pgw_copy.specs.State.{pending, is_over, IsReady, IsEnded, cells_of};
+ghost use Rattle.pgw_copy.specs.State.{pending, is_over, IsReady, IsEnded, cells_of, bytes_of};
 
 use crate::header::take_header;
 use crate::row::RowBuffer;
@@ -119,18 +119,19 @@ impl CopyReader {
         Ok(count)
     }
 
-    /// Takes the fields of the row whose count is pending, and lends its cells. Nothing is pending then.
+    /// Takes the fields of the row whose count is pending, and lends the row. Nothing is pending then.
     ///
     /// | error | what was taken |
     /// |---|---|
     /// | `Truncated` | all that was left, which ends inside these fields |
     /// | `ReadFault` | the beginning of these fields; the source failed behind it |
-    /// | `NoMemory` | the beginning of these fields, or all of them; memory for a cell was asked for and refused |
+    /// | `NoMemory` | the beginning of these fields, or all of them; memory for the row was asked for and refused |
     pub fn read_fields<S: Source>(&mut self, source: &mut S) -> Result<RawRow<'_>, CopyReadError>
         requires { IsSome (pending self.old) }
         ensures takes { (count : ℕ) → pending self.old ≡ Some count → Takes (S.left source.old) (S.left source.new)
             (HasFailed (S.fault_count source.old) (S.fault_count source.new))
-            result (λ row taken. AreFields (cells_of row) taken)
+            result
+            (λ row taken. AreFields (cells_of row) taken × (bytes_of row ≡ to_be_bytes w16 count ++ taken))
             (kept_fault (AreCutFields count) (AreWholeFields count)) }
         ensures many { (count : ℕ) → pending self.old ≡ Some count → IfOk result (λ row. length (cells_of row) ≡ count) }
         ensures* reader { sem 𝓛 (Rests the_row self.entry (λ new.
@@ -145,7 +146,7 @@ impl CopyReader {
         Ok(RawRow { row: &self.row })
     }
 
-    /// Takes a row, its count and its fields, and lends its cells, or None at the count -1, behind which the reader is
+    /// Takes a row, its count and its fields, and lends it, or None at the count -1, behind which the reader is
     /// over. The errors are those of `next_count` and `read_fields`.
     pub fn next_row<S: Source>(
         &mut self,
@@ -154,7 +155,9 @@ impl CopyReader {
         requires { IsReady self.old }
         ensures takes { Takes (S.left source.old) (S.left source.new)
             (HasFailed (S.fault_count source.old) (S.fault_count source.new))
-            result (λ row taken. IsRowOrEnd (option_map cells_of row) taken) row_fault }
+            result
+            (λ row taken. IsRowOrEnd (option_map cells_of row) taken × IfSome row (λ r. bytes_of r ≡ taken))
+            row_fault }
         ensures* reader { sem 𝓛 (Rests the_row self.entry (λ new.
             MatchResult result (λ row. (pending new ≡ None) × (is_over new ≡ is_none row)) (λ _. IsEnded new))) }
         ensures faults { S.fault_count source.old ≤ S.fault_count source.new }

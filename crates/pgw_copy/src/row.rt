@@ -1,16 +1,16 @@
 ghost use Rattle.std.specs.Prelude.{◌≡◌, ◌≤◌, ◌+◌, [], ◌∷◌, ◌++◌, List, ℕ, length, option_map, None, Some, OnOk};
+ghost use Rattle.std.specs.Int.{to_be_bytes, w16};
 ghost use Rattle.std.specs.List.{slice_get};
 ghost use Rattle.pgw_wire.specs.Cell.{Cell, cell_of};
 ghost use Rattle.pgw_wire.specs.Outside.{HasFailed};
-ghost use Rattle.pgw_copy.specs.State.{cells_of};
+ghost use Rattle.pgw_copy.specs.State.{cells_of, bytes_of};
 ghost use Rattle.pgw_copy.specs.Format.{IsField, AreFields};
 ghost use Rattle.pgw_copy.specs.Reader.{Takes, kept_fault, IsShort, HasSize, IsCutField, IsWholeField, AreCutFields, AreWholeFields};
 
 use crate::CopyReadError;
-use crate::pieces::Pieces;
-use crate::source::take_length;
+use crate::taken::TakenBytes;
 use pgw_wire::{RawCell, Source};
-use std::alloc::Global;
+use std::alloc::{AllocError, Global};
 use std::marker::Model;
 
 /// From here on a length is negative, in two's complement.
@@ -23,7 +23,7 @@ pub(crate) enum Place {
     Piece { start: usize, end: usize },
 }
 
-/// The cells of a row, one for each field, lent by the reader that read them.
+/// A row, lent by the reader that read it: its cells, one for each field, and its bytes as they were taken.
 #[derive(Clone, Copy)]
 pub struct RawRow<'a> {
     pub(crate) row: &'a RowBuffer,
@@ -43,25 +43,32 @@ impl RawRow<'_> {
     {
         self.row.get(place)
     }
+
+    /// The row as it was taken: its count in two bytes, big-endian, and its fields.
+    pub fn as_bytes(&self) -> &[u8]
+        ensures { result.now ≡ bytes_of self.now }
+    {
+        self.row.as_bytes()
+    }
 }
 
-/// The row that a reader keeps: the bytes of its pieces, and where each cell lies among them. Contracts see its cells.
+/// The row that a reader keeps: its bytes as they were taken, and where each cell lies among them. Contracts see its cells
+/// and its bytes.
 #[derive(Drop)]
 pub(crate) struct RowBuffer {
-    bytes: Pieces,
+    bytes: TakenBytes,
     places: Vec<Place>,
 }
 
 impl Model for RowBuffer {
-    ghost use Rattle.std.specs.Prelude.{List, length};
-    ghost use Rattle.pgw_wire.specs.Cell.{Cell};
-    ghost use Rattle.pgw_copy.specs.Places.{cells_at, AllLieIn, cells_code};
+    ghost use Rattle.std.specs.Prelude.{length};
+    ghost use Rattle.pgw_copy.specs.Places.{cells_at, AllLieIn, KeptRow, kept_row_code};
 
-    ghost Value = { List Cell };
+    ghost Value = { KeptRow };
 
-    ghost coded = { cells_code };
+    ghost coded = { kept_row_code };
 
-    ghost view = { λ r. cells_at r.bytes r.places.items };
+    ghost view = { λ r. record { cells = cells_at r.bytes r.places.items; bytes = r.bytes } };
 
     ghost invariant = { λ r. AllLieIn (length r.bytes) r.places.items };
 }
@@ -69,20 +76,20 @@ impl Model for RowBuffer {
 impl RowBuffer {
     /// No row.
     pub(crate) fn new(alloc: Global) -> RowBuffer
-        ensures { result ≡ [] }
+        ensures { result ≡ record { cells = []; bytes = [] } }
     {
         RowBuffer {
-            bytes: Pieces::new(alloc),
+            bytes: TakenBytes::new(alloc),
             places: Vec::new(alloc),
         }
     }
 
-    /// Drops the row and keeps its room.
-    pub(crate) fn clear(&mut self)
-        ensures { self.new ≡ [] }
+    /// Puts the beginning of a row, its count, in place of the row before, whose room it keeps.
+    fn begin(&mut self, count: u16) -> Result<(), AllocError>
+        ensures ok { OnOk result (self.new ≡ record { cells = []; bytes = to_be_bytes w16 count }) }
     {
         self.places.clear();
-        self.bytes.clear();
+        self.bytes.begin(count)
     }
 
     /// Takes the next `len` bytes, and keeps them as the piece of a cell behind the others.
@@ -90,9 +97,10 @@ impl RowBuffer {
         ensures takes { Takes (S.left source.old) (S.left source.new)
             (HasFailed (S.fault_count source.old) (S.fault_count source.new))
             result
-            (λ _ taken. (length taken ≡ len) × (self.new ≡ self.old ++ (Some taken ∷ [])))
+            (λ _ taken. (length taken ≡ len) × (self.new.cells ≡ self.old.cells ++ (Some taken ∷ []))
+            × (self.new.bytes ≡ self.old.bytes ++ taken))
             (kept_fault (IsShort len) (HasSize len)) }
-        ensures many { OnOk result (length self.new ≡ length self.old + 1) }
+        ensures many { OnOk result (length self.new.cells ≡ length self.old.cells + 1) }
         ensures faults { S.fault_count source.old ≤ S.fault_count source.new }
         ensures origin { S.origin source.new ≡ S.origin source.old }
     {
@@ -108,13 +116,14 @@ impl RowBuffer {
         ensures takes { Takes (S.left source.old) (S.left source.new)
             (HasFailed (S.fault_count source.old) (S.fault_count source.new))
             result
-            (λ _ taken. (cell : Cell) × IsField cell taken × (self.new ≡ self.old ++ (cell ∷ [])))
+            (λ _ taken. (cell : Cell) × IsField cell taken × (self.new.cells ≡ self.old.cells ++ (cell ∷ []))
+            × (self.new.bytes ≡ self.old.bytes ++ taken))
             (kept_fault IsCutField IsWholeField) }
-        ensures many { OnOk result (length self.new ≡ length self.old + 1) }
+        ensures many { OnOk result (length self.new.cells ≡ length self.old.cells + 1) }
         ensures faults { S.fault_count source.old ≤ S.fault_count source.new }
         ensures origin { S.origin source.new ≡ S.origin source.old }
     {
-        let length = take_length(source)?;
+        let length = self.bytes.take_length(source)?;
         if length < NEGATIVE_LENGTH {
             self.take_piece(length as usize, source)
         } else {
@@ -132,13 +141,13 @@ impl RowBuffer {
         ensures takes { Takes (S.left source.old) (S.left source.new)
             (HasFailed (S.fault_count source.old) (S.fault_count source.new))
             result
-            (λ _ taken. AreFields self.new taken)
+            (λ _ taken. AreFields self.new.cells taken × (self.new.bytes ≡ to_be_bytes w16 count ++ taken))
             (kept_fault (AreCutFields count) (AreWholeFields count)) }
-        ensures many { OnOk result (length self.new ≡ count) }
+        ensures many { OnOk result (length self.new.cells ≡ count) }
         ensures faults { S.fault_count source.old ≤ S.fault_count source.new }
         ensures origin { S.origin source.new ≡ S.origin source.old }
     {
-        self.clear();
+        self.begin(count)?;
         for _field in 0..count {
             self.take_field(source)?;
         }
@@ -147,19 +156,26 @@ impl RowBuffer {
 
     /// How many cells there are.
     fn len(&self) -> usize
-        ensures { result ≡ length self.now }
+        ensures { result ≡ length self.now.cells }
     {
         self.places.len()
     }
 
     /// The cell at a place, counted from 0. None past the last.
     fn get(&self, place: usize) -> Option<RawCell<'_>>
-        ensures { option_map cell_of result ≡ slice_get self.now place }
+        ensures { option_map cell_of result ≡ slice_get self.now.cells place }
     {
         match self.places.get(place)? {
             Place::Null => Some(RawCell::Null),
             Place::Piece { start, end } => Some(RawCell::Piece(self.bytes.piece(*start, *end))),
         }
+    }
+
+    /// The bytes of the row.
+    fn as_bytes(&self) -> &[u8]
+        ensures { result.now ≡ self.now.bytes }
+    {
+        self.bytes.as_bytes()
     }
 }
 
@@ -174,8 +190,8 @@ mod tests {
         let mut source = QuietSource::new(bytes);
         let mut row = RowBuffer::new(rt.alloc());
         row.take_fields(1, &mut source).expect(&rt, "a row");
-        assert_eq!(rt; row.bytes.len(), 3);
+        assert_eq!(rt; row.as_bytes(), b"\0\x01\0\0\0\x03abc".as_slice());
         row.take_fields(1, &mut source).expect(&rt, "a row");
-        assert_eq!(rt; row.bytes.len(), 2);
+        assert_eq!(rt; row.as_bytes(), b"\0\x01\0\0\0\x02de".as_slice());
     }
 }

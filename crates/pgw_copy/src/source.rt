@@ -1,10 +1,9 @@
-ghost use Rattle.std.specs.Prelude.{◌≡◌, ◌^◌, ◌<◌, ◌≤◌, length};
-ghost use Rattle.std.specs.Int.{to_be_bytes, w32};
+ghost use Rattle.std.specs.Prelude.{◌≡◌, ◌<◌, ◌≤◌, length};
 ghost use Rattle.pgw_wire.specs.Outside.{HasFailed};
 ghost use Rattle.pgw_copy.specs.Reader.{Takes, cut_fault, IsShort};
 
 use crate::CopyReadError;
-use pgw_wire::{Source, take_u32};
+use pgw_wire::Source;
 
 /// How many bytes are passed over at once where they are many.
 const CHUNK: usize = 512;
@@ -65,18 +64,4 @@ pub(crate) fn pass_over<S: Source>(source: &mut S, len: usize) -> Result<(), Cop
         left -= next;
     }
     Ok(())
-}
-
-/// Takes the length of a field, whose two's complement it answers as it stands: from 2^31 on it is negative.
-pub(crate) fn take_length<S: Source>(source: &mut S) -> Result<u32, CopyReadError>
-    ensures takes { Takes (S.left source.old) (S.left source.new)
-        (HasFailed (S.fault_count source.old) (S.fault_count source.new))
-        result (λ n taken. (n < 2 ^ 32) × (taken ≡ to_be_bytes w32 n)) (cut_fault (IsShort 4)) }
-    ensures faults { S.fault_count source.old ≤ S.fault_count source.new }
-    ensures origin { S.origin source.new ≡ S.origin source.old }
-{
-    let mut bytes = [0; 4];
-    fill(source, &mut bytes)?;
-    let (length, _) = take_u32(&bytes).unwrap();
-    Ok(length)
 }

@@ -146,6 +146,7 @@ fn a_stream_is_read(rt: HostRuntime) -> Result<(), Fail> {
                 assert_eq!(rt; cell(&row, 1), Some(None));
                 assert_eq!(rt; cell(&row, 2), Some(Some(b"".as_slice())));
                 assert_eq!(rt; cell(&row, 3), None);
+                assert_eq!(rt; row.as_bytes(), &OTHER[24..40]);
             }
             None => return Err(Fail::from("no row")),
         }
@@ -175,6 +176,7 @@ fn counts_and_fields_are_read_apart(rt: HostRuntime) -> Result<(), Fail> {
     assert_eq!(rt; cell(&row, 0), Some(Some(b"\0\0\0\x07".as_slice())));
     assert_eq!(rt; cell(&row, 1), Some(None));
     assert_eq!(rt; cell(&row, 2), Some(Some(b"hi".as_slice())));
+    assert_eq!(rt; row.as_bytes(), ROW);
     assert_eq!(rt; (reader.pending(), reader.is_over()), (None, false));
     assert_eq!(rt; source.taken(), 39);
 
@@ -186,6 +188,7 @@ fn counts_and_fields_are_read_apart(rt: HostRuntime) -> Result<(), Fail> {
     let row = reader.read_fields(&mut source)?;
     assert_eq!(rt; row.len(), 0);
     assert_eq!(rt; cell(&row, 0), None);
+    assert_eq!(rt; row.as_bytes(), b"\0\0".as_slice());
     assert_eq!(rt; source.taken(), 41);
 
     assert_eq!(rt; reader.next_count(&mut source), Ok(None));

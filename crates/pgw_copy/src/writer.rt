@@ -8,7 +8,7 @@ ghost use Rattle.pgw_copy.specs.contracts.writer.CopyWriter.{the_row};
 ghost use Rattle.pgw_copy.specs.Format.{canonical_header, trailer};
 ghost use Rattle.pgw_copy.specs.Writer.{WroteFront};
 
-use pgw_wire::{ByteBuffer, Failed, NoMemory, Sink};
+use pgw_wire::{ByteBuffer, Failed, NoMemory, Sink, send};
 use std::alloc::Global;
 use std::marker::Model;
 
@@ -38,20 +38,19 @@ impl Model for CopyWriter {
     ghost view = { λ w. w.row };
 }
 
-/// Writes the whole piece, by as many writes as the sink wants.
-fn send<K: Sink>(sink: &mut K, piece: &[u8]) -> Result<(), Failed>
+/// Writes the whole piece. `Failed` where the sink failed.
+fn send_whole<K: Sink>(sink: &mut K, piece: &[u8]) -> Result<(), Failed>
     ensures ok { OnOk result (Wrote (K.gained sink.old) (K.gained sink.new) (K.settled sink.old) (K.settled sink.new) piece.now) }
     ensures err { OnErr result (WroteFront (K.gained sink.old) (K.gained sink.new) (K.settled sink.old) (K.settled sink.new) piece.now) }
     ensures failed { OnErr result (HasFailed (K.fault_count sink.old) (K.fault_count sink.new)) }
     ensures faults { K.fault_count sink.old ≤ K.fault_count sink.new }
     ensures origin { K.origin sink.new ≡ K.origin sink.old }
 {
-    let mut sent = 0;
-    while sent < piece.len() {
-        let n = sink.write(&piece[sent..])?;
-        sent += n;
+    if send(sink, piece) < piece.len() {
+        Err(Failed)
+    } else {
+        Ok(())
     }
-    Ok(())
 }
 
 impl CopyWriter {
@@ -74,7 +73,7 @@ impl CopyWriter {
         ensures origin { K.origin sink.new ≡ K.origin sink.old }
         ensures buffer { self.new ≡ self.old }
     {
-        send(sink, &HEADER)
+        send_whole(sink, &HEADER)
     }
 
     /// Drops what the buffer has and puts the row's count of columns there, at most 32767, two bytes, big-endian. The one error is a
@@ -108,7 +107,7 @@ impl CopyWriter {
         ensures origin { K.origin sink.new ≡ K.origin sink.old }
         ensures buffer { self.new ≡ self.old }
     {
-        send(sink, self.row.as_bytes())
+        send_whole(sink, self.row.as_bytes())
     }
 
     /// Writes the count -1, two bytes of 255, which ends the stream, and flushes, so that all that the sink got is
@@ -122,7 +121,7 @@ impl CopyWriter {
         ensures origin { K.origin sink.new ≡ K.origin sink.old }
         ensures buffer { self.new ≡ self.old }
     {
-        send(sink, &TRAILER)?;
+        send_whole(sink, &TRAILER)?;
         sink.flush()
     }
 }

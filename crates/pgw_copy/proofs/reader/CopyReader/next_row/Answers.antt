@@ -1,4 +1,4 @@
-use Rattle.std.proofs.Common.{rules, ◌∙◌, refl, ap, arith}
+use Rattle.std.proofs.Common.{rules, ◌∙◌, ◌++◌, refl, sym, ap, arith}
 use Rattle.std.specs.Prelude.{is_none}
 use Rattle.pgw_wire.proofs.Taking.{took_then, took_weaker}
 use Rattle.pgw_copy.specs.State.{cells_of}
@@ -37,7 +37,7 @@ returns-in-None g c =
     let counted = rw c.in-None.is at (c.in_ok-next_count.ensures.takes.ok _ refl) in (
       (refl, (λ _. tt), (c.in_ok-next_count.ensures.ok.0 ∙ c.in-None.is, c.in_ok-next_count.ensures.ok.1 ∙ ap is_none c.in-None.is)),
       record {
-        takes = takes_done _ _ _ (took_weaker counted (λ _ h. h));
+        takes = takes_done _ _ _ (took_weaker counted (λ _ h. (h, tt)));
         reader = tt;
         faults = search rules;
         origin = search rules;
@@ -52,7 +52,10 @@ returns-in_ok-read_fields-in-Some g c =
     let row = c.in_ok-read_fields-in-Some.field-0 in (
       (refl, (λ _. tt), rw c.in_ok-read_fields-in-Some.was at c.read_fields.follows.holds-at-none),
       record {
-        takes = takes_done _ _ _ (took_then counted ((c.in_ok-read_fields-in-Some.ensures.takes n pends).ok _ refl) (λ x y count each. row_of n (cells_of row) x y count (c.in_ok-read_fields-in-Some.ensures.many n pends) each));
+        takes = takes_done _ _ _ (took_then counted ((c.in_ok-read_fields-in-Some.ensures.takes n pends).ok _ refl) (λ x y count fields. (
+          row_of n (cells_of row) x y count (c.in_ok-read_fields-in-Some.ensures.many n pends) fields.0,
+          fields.1 ∙ ap (λ l. l ++ y) (sym count.1),
+        )));
         reader = tt;
         faults = search rules;
         origin = search rules;

@@ -1,4 +1,6 @@
-use Rattle.std.proofs.Common.{rules, ◌≡◌, ◌∙◌, ℕ, Option, Some, refl}
+use Rattle.std.proofs.Common.{rules, ◌≡◌, ◌∙◌, ◌++◌, ℕ, Option, Some, ap, refl}
+use Rattle.std.specs.Int.{to_be_bytes, w16}
+use Rattle.pgw_wire.proofs.Taking.{took_weaker}
 use Rattle.pgw_copy.proofs.Reading.{exit, takes_first, takes_done}
 use Rattle.pgw_copy.proofs.reader.CopyReader.read_fields.Goals as goal
 
@@ -22,7 +24,7 @@ pub returns : goal.returns
 returns g c = (
   (refl, (λ _. tt), (refl, refl)),
   record {
-    takes = λ count was. let same : c.unwrap-count.result ≡ count = pending_is _ _ _ _ c.pending.ensures c.unwrap-count.ensures was in takes_done _ _ _ (c.in_ok-take_fields.ensures.takes.ok _ refl);
+    takes = λ count was. let same : c.unwrap-count.result ≡ count = pending_is _ _ _ _ c.pending.ensures c.unwrap-count.ensures was in takes_done _ _ _ (took_weaker (c.in_ok-take_fields.ensures.takes.ok _ refl) (λ taken h. (h.0, h.1 ∙ ap (λ k. to_be_bytes w16 k ++ taken) same)));
     many = λ count was. let same : c.unwrap-count.result ≡ count = pending_is _ _ _ _ c.pending.ensures c.unwrap-count.ensures was in c.in_ok-take_fields.ensures.many ∙ same;
     reader = tt;
     faults = search rules;

@@ -3,13 +3,15 @@ use Rattle.pgw_wire.proofs.Taking.{took_weaker}
 use Rattle.pgw_copy.specs.declared.row.Place.{Place}
 use Rattle.pgw_copy.specs.declared.row.Place.TheVariants.{Piece}
 use Rattle.pgw_copy.specs.Places.{cells_at, LiesIn, AllLieIn}
+use Rattle.pgw_copy.specs.Reader.{IsShort, HasSize}
 use Rattle.pgw_copy.proofs.Places.{all_lie_later, all_lie_append, piece_kept}
-use Rattle.pgw_copy.proofs.Reading.{exit, takes_first, takes_done, takes_no_memory}
+use Rattle.pgw_copy.proofs.Reading.{exit, kept_at, takes_first, takes_done, takes_no_memory}
 use Rattle.pgw_copy.proofs.row.RowBuffer.take_piece.Goals as goal
 
 pub returns-in_err-take-clause-takes : goal.returns-in_err-take-clause-takes
 returns-in_err-take-clause-takes g c =
-    takes_first _ _ (exit c.from_residual.result _ c.from_residual.ensures.1) c.in_err-take.ensures.takes (λ f. f) (λ _ _ h. h)
+    takes_first _ _ (exit c.from_residual.result _ c.from_residual.ensures.1) c.in_err-take.ensures.takes (λ f. f)
+    (λ d x. kept_at (IsShort c.args.len) (λ _. ⊥) (IsShort c.args.len) (HasSize c.args.len) d x x (λ short. short) (λ h. absurd h))
 
 pub invariant_of-self-in_err-push : goal.invariant_of-self-in_err-push
 invariant_of-self-in_err-push g c =
@@ -30,5 +32,6 @@ returns-clause-takes g c =
       h.0,
       ap (cells_at c.take.new.self) c.in_ok-push.ensures.items
           ∙ piece_kept _ _ x _ _ _ c.self.invariant h.1 c.len-start.ensures c.len-end.ensures
-          ∙ ap (λ cs. cs ++ (Some x ∷ [])) c.self.view_is,
+          ∙ ap (λ r. r.cells ++ (Some x ∷ [])) c.self.view_is,
+      h.1 ∙ ap (λ r. r.bytes ++ x) c.self.view_is,
     )))

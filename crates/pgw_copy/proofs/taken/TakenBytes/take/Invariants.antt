@@ -1,6 +1,6 @@
 use Rattle.std.proofs.Common.{◌≡◌, ◌≤◌, ◌+◌, ◌++◌, length}
 use Rattle.pgw_wire.specs.Outside.{Took}
-use Rattle.pgw_copy.proofs.pieces.Pieces.take.Given as goal
+use Rattle.pgw_copy.proofs.taken.TakenBytes.take.Given as goal
 
 abbrev pub invariant-loop-left : goal.invariant-loop-left
 invariant-loop-left g l = record {

@@ -1,16 +1,16 @@
 use Rattle.std.proofs.Common.{rules, ◌++◌, refl, ap, ◌∙◌, arith, length-append, append_assoc}
 use Rattle.pgw_wire.proofs.Taking.{took_then, took_weaker}
-use Rattle.pgw_copy.specs.Reader.{IsShort, HasSize}
-use Rattle.pgw_copy.proofs.Reading.{exit, kept_at, takes_later, takes_done, short_or_whole}
-use Rattle.pgw_copy.proofs.pieces.Pieces.take.Goals as goal
+use Rattle.pgw_copy.specs.Reader.{IsShort}
+use Rattle.pgw_copy.proofs.Reading.{exit, kept_at, takes_later, takes_done}
+use Rattle.pgw_copy.proofs.taken.TakenBytes.take.Goals as goal
 
 pub returns-in_err-append-clause-takes : goal.returns-in_err-append-clause-takes
 returns-in_err-append-clause-takes g c =
     let next = c.min-next.result in
     takes_later _ _ (exit c.from_residual.result _ c.from_residual.ensures.1) c.loop-left.invariant.took c.in_err-append.ensures.takes (λ f. omega (arith, f, c.loop-left.invariant.faults))
-    (λ d x y so_far. kept_at (IsShort next) (HasSize next) (IsShort c.args.len) (HasSize c.args.len) d y (x ++ y)
+    (λ d x y so_far. kept_at (IsShort next) (λ _. ⊥) (IsShort c.args.len) (λ _. ⊥) d y (x ++ y)
     (λ short. omega (arith, so_far.0, short, length-append x y))
-    (λ whole. short_or_whole c.args.len (x ++ y) (omega (arith, so_far.0, whole, length-append x y))))
+    (λ h. absurd h))
 
 pub loop-left-preserved : goal.loop-left-preserved
 loop-left-preserved g c = record {

@@ -1,13 +1,9 @@
 use Rattle.std.proofs.Common.{◌≡◌, ◌≤◌, ◌++◌, List, ℕ, length, take, drop, ◌+◌, ◌-◌, arith, sym, ap, ◌∙◌, length-take, length-drop, refl}
-use Rattle.std.proofs.lemmas.Grind.{common_steps}
 use Rattle.pgw_wire.proofs.Taking.{took_weaker}
-use Rattle.pgw_copy.specs.Reader.{IsShort, HasSize}
+use Rattle.pgw_copy.proofs.Lists.{take_two}
+use Rattle.pgw_copy.specs.Reader.{IsShort}
 use Rattle.pgw_copy.proofs.Reading.{exit, takes_first, takes_done, kept_of_cut}
-use Rattle.pgw_copy.proofs.pieces.Pieces.append.Goals as goal
-
--- the first n of a row of bytes in whose midst y was written
-take_two : (n len : ℕ) (x y z w : List ℕ) → n ≡ length x + length y → n ≤ len → take n (take len (x ++ (y ++ z) ++ w)) ≡ x ++ y
-take_two n len x y z w e within = grind (arith, common_steps)
+use Rattle.pgw_copy.proofs.taken.TakenBytes.append.Goals as goal
 
 -- how much was to be filled
 part : (used next : ℕ) (lent : List ℕ) → used + next ≤ length lent → length (take (used + next - used) (drop used lent)) ≡ next
@@ -17,7 +13,7 @@ pub returns-in_err-fill-clause-takes : goal.returns-in_err-fill-clause-takes
 returns-in_err-fill-clause-takes g c =
     let size = part c.self.inside.used c.args.next c.deref_mut.result.now (omega (arith, c.in_ok-make_room.ensures.ok, ap length c.deref_mut.ensures.value)) in
     takes_first _ _ (exit c.from_residual-in_err-fill.result _ c.from_residual-in_err-fill.ensures.1) (rw size at c.in_err-fill.ensures.takes) (λ f. f)
-    (λ d bytes. kept_of_cut (IsShort c.args.next) (IsShort c.args.next) (HasSize c.args.next) d bytes bytes (λ s. s))
+    (λ d bytes. kept_of_cut (IsShort c.args.next) (IsShort c.args.next) (λ _. ⊥) d bytes bytes (λ s. s))
 
 pub returns-clause-takes : goal.returns-clause-takes
 returns-clause-takes g c =

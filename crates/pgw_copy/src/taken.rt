@@ -1,18 +1,41 @@
-ghost use Rattle.std.specs.Prelude.{◌≡◌, ◌+◌, ◌-◌, ◌<◌, ◌≤◌, [], ◌++◌, length, take, drop, OnOk};
+ghost use Rattle.std.specs.Prelude.{◌≡◌, ◌+◌, ◌-◌, ◌<◌, ◌≤◌, ◌^◌, [], ◌++◌, length, take, drop, OnOk};
+ghost use Rattle.std.specs.Int.{to_be_bytes, w16, w32};
 ghost use Rattle.pgw_wire.specs.Outside.{HasFailed};
-ghost use Rattle.pgw_copy.specs.Reader.{Takes, kept_fault, IsShort, HasSize};
+ghost use Rattle.pgw_copy.specs.Reader.{Takes, kept_fault, IsShort};
 
 use crate::CopyReadError;
 use crate::source::fill;
-use pgw_wire::Source;
+use pgw_wire::{Source, take_u32};
 use std::alloc::{AllocError, Global};
 use std::marker::Model;
 
 /// For how many bytes room is made at once where they are many.
 const STEP: usize = 65536;
 
-/// Makes room for `next` more bytes behind those in use. Where it grows, there is then room for as many again as are in
-/// use, up to 65536, so that many small pieces cost few requests.
+/// How many bytes a count has.
+const COUNT: usize = 2;
+
+/// How many bytes a length has.
+const LENGTH: usize = 4;
+
+/// Makes room for `next` more bytes behind those in use, where there is less. There is then room for as many again as are
+/// in use, up to 65536, so that many small pieces cost few requests.
+fn grow(bytes: &mut Vec<u8>, used: usize, next: usize) -> Result<(), AllocError>
+    requires within { used ≤ length bytes.old.items }
+    requires less { length bytes.old.items < used + next }
+    requires step { next ≤ 65536 }
+    ensures ok { OnOk result (used + next ≤ length bytes.new.items) }
+    ensures kept { take used bytes.new.items ≡ take used bytes.old.items }
+    ensures within { used ≤ length bytes.new.items }
+{
+    let room = used + next.max(used.min(STEP));
+    bytes.reserve_exact(room - bytes.len())?;
+    bytes.resize(room, 0)?;
+    Ok(())
+}
+
+/// Makes room for `next` more bytes behind those in use. Mostly there is room already, so only the test is inlined.
+#[inline(always)]
 fn make_room(bytes: &mut Vec<u8>, used: usize, next: usize) -> Result<(), AllocError>
     requires within { used ≤ length bytes.old.items }
     requires step { next ≤ 65536 }
@@ -21,22 +44,20 @@ fn make_room(bytes: &mut Vec<u8>, used: usize, next: usize) -> Result<(), AllocE
     ensures within { used ≤ length bytes.new.items }
 {
     if bytes.len() - used < next {
-        let room = used + next.max(used.min(STEP));
-        bytes.reserve_exact(room - bytes.len())?;
-        bytes.resize(room, 0)?;
+        grow(bytes, used, next)?;
     }
     Ok(())
 }
 
-/// The bytes of the pieces of a row, one behind the other, and behind them room for more, which is filled already. Contracts
-/// see the bytes in use as a list.
+/// The bytes of a row as they were taken, and behind them room for more, which is filled already. Contracts see the bytes
+/// in use as a list.
 #[derive(Drop)]
-pub(crate) struct Pieces {
+pub(crate) struct TakenBytes {
     bytes: Vec<u8>,
     used: usize,
 }
 
-impl Model for Pieces {
+impl Model for TakenBytes {
     ghost use Rattle.std.specs.Prelude.{List, ℕ, ◌≤◌, take, vec_len};
     ghost use Rattle.std.specs.Coded.{coded_list, coded_ℕ};
 
@@ -44,27 +65,31 @@ impl Model for Pieces {
 
     ghost coded = { coded_list coded_ℕ };
 
-    ghost view = { λ p. take p.used p.bytes.items };
+    ghost view = { λ b. take b.used b.bytes.items };
 
-    ghost invariant = { λ p. p.used ≤ vec_len p.bytes };
+    ghost invariant = { λ b. b.used ≤ vec_len b.bytes };
 }
 
-impl Pieces {
+impl TakenBytes {
     /// No bytes. It takes no memory.
-    pub(crate) fn new(alloc: Global) -> Pieces
+    pub(crate) fn new(alloc: Global) -> TakenBytes
         ensures { result ≡ [] }
     {
-        Pieces {
+        TakenBytes {
             bytes: Vec::new(alloc),
             used: 0,
         }
     }
 
-    /// Drops the bytes and keeps their room.
-    pub(crate) fn clear(&mut self)
-        ensures { self.new ≡ [] }
+    /// Puts a row's count in place of the bytes, whose room it keeps.
+    pub(crate) fn begin(&mut self, count: u16) -> Result<(), AllocError>
+        ensures ok { OnOk result (self.new ≡ to_be_bytes w16 count) }
     {
         self.used = 0;
+        make_room(&mut self.bytes, 0, COUNT)?;
+        self.bytes[0..COUNT].copy_from_slice(&count.to_be_bytes());
+        self.used = COUNT;
+        Ok(())
     }
 
     /// How many bytes there are.
@@ -72,6 +97,13 @@ impl Pieces {
         ensures { result ≡ length self.now }
     {
         self.used
+    }
+
+    /// The bytes.
+    pub(crate) fn as_bytes(&self) -> &[u8]
+        ensures { result.now ≡ self.now }
+    {
+        &self.bytes[..self.used]
     }
 
     /// The bytes from one place to another.
@@ -84,6 +116,9 @@ impl Pieces {
     }
 
     /// Takes the next `next` bytes, one at least, and appends them.
+    ///
+    /// Where this is inlined, and `next` is known there, so is the length of what is copied.
+    #[inline(always)]
     fn append<S: Source>(&mut self, source: &mut S, next: usize) -> Result<(), CopyReadError>
         requires some { 0 < next }
         requires step { next ≤ 65536 }
@@ -91,7 +126,7 @@ impl Pieces {
             (HasFailed (S.fault_count source.old) (S.fault_count source.new))
             result
             (λ _ taken. (length taken ≡ next) × (self.new ≡ self.old ++ taken))
-            (kept_fault (IsShort next) (HasSize next)) }
+            (kept_fault (IsShort next) (λ _. ⊥)) }
         ensures kept { length self.old ≤ length self.new }
         ensures grown { OnOk result (length self.new ≡ length self.old + next) }
         ensures faults { S.fault_count source.old ≤ S.fault_count source.new }
@@ -101,6 +136,24 @@ impl Pieces {
         fill(source, &mut self.bytes[self.used..self.used + next])?;
         self.used += next;
         Ok(())
+    }
+
+    /// Takes the length of a field, and appends its bytes. It answers its two's complement as it stands: from 2^31 on it is
+    /// negative.
+    pub(crate) fn take_length<S: Source>(&mut self, source: &mut S) -> Result<u32, CopyReadError>
+        ensures takes { Takes (S.left source.old) (S.left source.new)
+            (HasFailed (S.fault_count source.old) (S.fault_count source.new))
+            result
+            (λ n taken. (n < 2 ^ 32) × (taken ≡ to_be_bytes w32 n) × (self.new ≡ self.old ++ taken))
+            (kept_fault (IsShort 4) (λ _. ⊥)) }
+        ensures kept { length self.old ≤ length self.new }
+        ensures faults { S.fault_count source.old ≤ S.fault_count source.new }
+        ensures origin { S.origin source.new ≡ S.origin source.old }
+    {
+        self.append(source, LENGTH)?;
+        let end = self.len();
+        let (length, _) = take_u32(self.piece(end - LENGTH, end)).unwrap();
+        Ok(length)
     }
 
     /// Takes the next `len` bytes, and appends them as they come: at most 65536 at a time, so that the room for them grows
@@ -114,7 +167,7 @@ impl Pieces {
             (HasFailed (S.fault_count source.old) (S.fault_count source.new))
             result
             (λ _ taken. (length taken ≡ len) × (self.new ≡ self.old ++ taken))
-            (kept_fault (IsShort len) (HasSize len)) }
+            (kept_fault (IsShort len) (λ _. ⊥)) }
         ensures kept { length self.old ≤ length self.new }
         ensures grown { OnOk result (length self.new ≡ length self.old + len) }
         ensures faults { S.fault_count source.old ≤ S.fault_count source.new }
@@ -132,7 +185,7 @@ impl Pieces {
 
 #[cfg(test)]
 mod tests {
-    use super::Pieces;
+    use super::TakenBytes;
     use crate::CopyReadError;
     use pgw_wire::QuietSource;
 
@@ -141,9 +194,9 @@ mod tests {
     fn room_follows_what_was_taken(rt: HostRuntime) {
         let bytes = Vec::from_slice(rt.alloc(), b"abc").expect(&rt, "memory");
         let mut source = QuietSource::new(bytes);
-        let mut pieces = Pieces::new(rt.alloc());
-        let taken = pieces.take(&mut source, 2147483647);
-        assert_eq!(rt; taken, Err(CopyReadError::Truncated));
-        assert!(rt; pieces.bytes.capacity() <= 3 + 65536);
+        let mut kept = TakenBytes::new(rt.alloc());
+        let result = kept.take(&mut source, 2147483647);
+        assert_eq!(rt; result, Err(CopyReadError::Truncated));
+        assert!(rt; kept.bytes.capacity() <= 3 + 65536);
     }
 }
