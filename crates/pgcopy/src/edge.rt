@@ -15,8 +15,11 @@ use std::process::ExitCode;
 use std::rt::Env;
 use std::{env, io};
 
-/// How many bytes of input, and of output, are kept between two calls of the system.
-const KEPT: usize = 65536;
+/// How many bytes of input are kept between two calls of the system, in which whole rows are looked for.
+const INPUT: usize = 262144;
+
+/// How many bytes of output are kept between two calls of the system. What is longer is written without being kept.
+const OUTPUT: usize = 65536;
 
 /// How many bytes of a line are kept: more than any line has.
 const LINE: usize = 256;
@@ -111,8 +114,8 @@ pub fn copy<I: Read + Drop, O: Write + Drop, E: Write + Drop>(
     ensures known { IfOk result (λ status. status ≢ Status.UnknownType) }
     ensures no_memory { IfErr result (λ e. error_kind e ≡ ErrorKind.OutOfMemory) }
 {
-    let reader = BufReader::with_capacity(alloc, KEPT, Retrying { inner: input })?;
-    let writer = BufWriter::with_capacity(alloc, KEPT, Retrying { inner: output })?;
+    let reader = BufReader::with_capacity(alloc, INPUT, Retrying { inner: input })?;
+    let writer = BufWriter::with_capacity(alloc, OUTPUT, Retrying { inner: output })?;
     let line = BufWriter::with_capacity(alloc, LINE, Retrying { inner: errors })?;
     let mut source = BufReadSource::new(reader);
     let mut sink = WriteSink::new(writer);

@@ -3,7 +3,7 @@ ghost use Rattle.std.specs.List.{filter_map, list_all};
 ghost use Rattle.std.specs.Option.{unwrap_or};
 ghost use Rattle.pgw_tree.specs.Tree.{shape, shapes};
 ghost use Rattle.pgw_tree.specs.Stream.{default_limits};
-ghost use Rattle.pgw_tree.specs.Handed.{columns_of, limits_of};
+ghost use Rattle.pgw_tree.specs.Handed.{columns_of};
 ghost use Rattle.pgcopy.specs.Words.{type_of, behind, is_option, number_of, option_fault, fault_of, first_fault, plan_of};
 ghost use Rattle.pgcopy.specs.Seen.{HasSeen};
 
@@ -207,7 +207,7 @@ fn known_types(alloc: Global, words: &[String]) -> Result<FirstList, NoMemory>
 /// The limits that the options set, and the defaults of the others.
 fn limits_from(seen: Seen) -> Limits
     requires field { IfSome seen.field (λ field. field ≤ 2147483647) }
-    ensures { limits_of result ≡ record {
+    ensures { result ≡ record {
       rows_max = unwrap_or seen.rows default_limits.rows_max;
       field_max = unwrap_or seen.field default_limits.field_max;
     } }
@@ -222,7 +222,7 @@ fn limits_from(seen: Seen) -> Limits
 /// Memory is asked for only where nothing is wrong with the words.
 pub fn read_words(alloc: Global, words: &[String]) -> Result<Plan, WordError>
     ensures plan { IfOk result (λ plan. plan_of words.now
-        ≡ Ok (record { limits = limits_of plan.limits; columns = shapes (columns_of plan.columns) })) }
+        ≡ Ok (record { limits = plan.limits; columns = shapes (columns_of plan.columns) })) }
     ensures some { IfOk result (λ plan. 1 ≤ length (columns_of plan.columns)) }
     ensures few { IfOk result (λ plan. length (columns_of plan.columns) ≤ 32767) }
     ensures fault { (place : _) (fault : _) → result ≡ Err (WordError.Fault place fault)

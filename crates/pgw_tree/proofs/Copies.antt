@@ -20,7 +20,7 @@ use Rattle.pgw_tree.specs.Faults.{fault_of}
 use Rattle.pgw_tree.specs.Causes.{PartWritten, header_cause}
 use Rattle.pgw_tree.specs.Turns.{IsValuesRow, IsCopying}
 
-rows_more : (ts : List Shape) (body x : List ℕ) (rows : List (List Value)) (cells : List Cell) (vs : List Value) → AreRows ts body rows → IsRow cells x → SpellsRow ts cells vs → AreRows ts (body ++ x) (rows ++ (vs ∷ []))
+pub rows_more : (ts : List Shape) (body x : List ℕ) (rows : List (List Value)) (cells : List Cell) (vs : List Value) → AreRows ts body rows → IsRow cells x → SpellsRow ts cells vs → AreRows ts (body ++ x) (rows ++ (vs ∷ []))
 rows_more ts body x [] cells vs each row spelled = (cells, x, [], row, spelled, refl, ap (λ l. l ++ x) each ∙ sym (append-nil x))
 rows_more ts body x (ws ∷ rows) cells vs each row spelled =
     (each.0, each.1, each.2 ++ x, each.3, each.4, rows_more ts each.2 x rows cells vs each.5 row spelled, ap (λ l. l ++ x) each.6 ∙ append_assoc each.1 each.2 x)
@@ -34,7 +34,7 @@ front_more most ts front x rows vs f r = record {
   is = ap (λ l. l ++ x) f.is ∙ append_assoc f.header f.body x;
 }
 
-all_more : {A : Type 0} (P : A → Type 0) (xs : List A) (x : A) → AllByRecursion P xs → P x → AllByRecursion P (xs ++ (x ∷ []))
+pub all_more : {A : Type 0} (P : A → Type 0) (xs : List A) (x : A) → AllByRecursion P xs → P x → AllByRecursion P (xs ++ (x ∷ []))
 all_more P [] x h p = (p, tt)
 all_more P (y ∷ ys) x h p = (h.0, all_more P ys x h.1 p)
 

@@ -10,3 +10,6 @@ pub mod WorkedCauses
 pub mod Parts
 pub mod Copies
 pub mod Finish
+pub mod PlainRows
+pub mod Respelled
+pub mod Runs

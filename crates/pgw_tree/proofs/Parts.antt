@@ -1,11 +1,13 @@
 -- How the answers of calls that take a part of a stream make that of a call of the copy.
-use Rattle.std.proofs.Common.{◌≡◌, ℕ, ◌<◌, List, ◌++◌, Option, None, Some, Bool, true, false, Result, Ok, Err, refl, sym, ap, ◌∙◌, arith, inl, inr}
+use Rattle.std.proofs.Common.{◌≡◌, ℕ, ◌<◌, List, [], ◌++◌, Option, subst, None, Some, Bool, true, false, Result, Ok, Err, refl, sym, ap, ◌∙◌, arith, inl, inr}
 use Rattle.std.specs.Prelude.{is_some}
 use mathlib.Core.Bool.{not}
 use Rattle.std.specs.Result.{IsErrAnd}
+use Rattle.std.specs.Prelude.{IfErr}
 use Rattle.std.proofs.lemmas.Result.{err_from_is_err_and}
 use Rattle.std.specs.Io.KnownBytes.{IsAtEnd}
-use Rattle.pgw_wire.specs.Outside.{Took}
+use Rattle.pgw_wire.specs.Outside.{Took, Wrote}
+use Rattle.pgw_wire.proofs.Adding.{wrote_none}
 use Rattle.pgw_wire.proofs.Taking.{took_then, took_weaker}
 use Rattle.pgw_copy.specs.declared.fault.CopyReadError.{CopyReadError}
 use Rattle.pgw_copy.specs.declared.fault.CopyReadError.TheVariants.{BadHeader, BadFlags, Truncated as reader_truncated, BadFieldCount, ReadFault as reader_failed, NoMemory}
@@ -58,8 +60,16 @@ is_failed reader_failed h = refl
 is_failed NoMemory h = absurd (cc)
 
 -- what the exit of a `?` returns
-pub fault_exit : {X : Type 0} (r : Result X CopyFault) (f : CopyFault) → IsErrAnd r (λ y. y ≡ f) → r ≡ Err f
+pub fault_exit : {X E : Type 0} (r : Result X E) (f : E) → IsErrAnd r (λ y. y ≡ f) → r ≡ Err f
 fault_exit r f h = let p = err_from_is_err_and r h in p.1 ∙ ap Err p.2
+
+-- what is said of an error, at the one that was answered
+pub said_at : {X E : Type 0} (r : Result X E) (e : E) (P : E → Type 0) → r ≡ Err e → IfErr r P → P e
+said_at {X = X} {E = E} r e P is h = subst (λ (s : Result X E). IfErr s P) is h
+
+-- The sink is as before, so nothing was written.
+pub wrote_still : {Z : Type 0} (gained : Z → Option (List ℕ)) (settled : Z → Option Bool) (before now : Z) → now ≡ before → Wrote (gained before) (gained now) (settled before) (settled now) []
+wrote_still {Z = Z} gained settled before now same = subst (λ (z : Z). Wrote (gained before) (gained z) (settled before) (settled z) []) (sym same) (wrote_none (gained before) (settled before))
 
 -- The reader's error is the fault of the call.
 pub part_first : {X Y : Type 0} {a b : Option (List ℕ)} {F F1 : Type 0} {P1 : Y → List ℕ → Type 0} {Fault1 : CopyReadError → List ℕ → Type 0} {r : Result X CopyFault} {e : CopyReadError} (P : X → List ℕ → Type 0) (Fault : CopyFault → List ℕ → Type 0)

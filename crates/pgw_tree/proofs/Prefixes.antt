@@ -27,7 +27,7 @@ fits_more most (u ∷ us) [] vs t v spelled fit one = absurd spelled
 fits_more most (u ∷ us) (d ∷ ds) [] t v spelled fit one = absurd spelled
 fits_more most (u ∷ us) (d ∷ ds) (w ∷ ws) t v spelled fit one = (fit.0, fits_more most us ds ws t v spelled.1 fit.1 one)
 
-canonical_more : (ts : List Shape) (cells : List Cell) (vs : List Value) (t : Shape) (v : Value) → SpellsRow ts cells vs → canonical_cells (ts ++ (t ∷ [])) (vs ++ (v ∷ [])) ≡ canonical_cells ts vs ++ (canonical_cell t v ∷ [])
+pub canonical_more : (ts : List Shape) (cells : List Cell) (vs : List Value) (t : Shape) (v : Value) → SpellsRow ts cells vs → canonical_cells (ts ++ (t ∷ [])) (vs ++ (v ∷ [])) ≡ canonical_cells ts vs ++ (canonical_cell t v ∷ [])
 canonical_more [] cells [] t v spelled = refl
 canonical_more [] cells (w ∷ ws) t v spelled = absurd spelled
 canonical_more (u ∷ us) [] vs t v spelled = absurd spelled

@@ -7,4 +7,6 @@ pub mod Tree
 pub mod Handed
 pub mod Causes
 pub mod Turns
+pub mod Runs
 pub mod Faults
+pub mod Plain

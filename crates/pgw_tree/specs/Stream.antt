@@ -1,5 +1,6 @@
 -- Streams of rows of values, and the limits within which they are copied.
-use Rattle.std.specs.Prelude.{◌≡◌, ℕ, ◌≤◌, List, [], ◌∷◌, ◌++◌, length}
+use Rattle.std.specs.Prelude.{◌≡◌, ℕ, ◌≤◌, List, [], ◌∷◌, ◌++◌, length, refl}
+use Rattle.std.specs.Coded.{Coded, code_by, coded×, coded_ℕ}
 use Rattle.std.specs.List.{AllByRecursion}
 use Rattle.pgw_wire.specs.Cell.{Cell}
 use Rattle.pgw_tree.specs.Tree.{Shape, Value}
@@ -28,6 +29,9 @@ pub record IsStream (columns : List Shape) (bytes : List ℕ) (rows : List (List
 pub record Limits : Type 0 where
   pub rows_max : ℕ
   pub field_max : ℕ
+
+abbrev pub limits_code : Coded Limits
+limits_code = code_by (ℕ × ℕ) (coded× coded_ℕ coded_ℕ) (λ l. (l.rows_max, l.field_max)) (λ p. record { rows_max = p.0; field_max = p.1 }) (λ _. refl)
 
 abbrev pub default_limits : Limits
 default_limits = record { rows_max = 18446744073709551615; field_max = 2147483647 }

@@ -1,14 +1,14 @@
 -- What the steps of a copy leave, for the crate's own functions: a row or the end at a time, and the rows so far.
-use Rattle.std.specs.Prelude.{◌≡◌, ℕ, List, length, Option, Bool, true, false, Result, Ok, Err}
+use Rattle.std.specs.Prelude.{◌≡◌, ℕ, List, length, Option, Result, Ok, Err}
 use Rattle.std.specs.Io.KnownBytes.{IsAtEnd}
 use Rattle.pgw_wire.specs.Cell.{Cell}
 use Rattle.pgw_wire.specs.Outside.{Took}
-use Rattle.pgw_copy.specs.Format.{IsRow, trailer}
+use Rattle.pgw_copy.specs.Format.{IsRow}
 use Rattle.pgw_tree.specs.declared.fault.CopyFault.{CopyFault}
 use Rattle.pgw_tree.specs.declared.fault.CopyFault.TheVariants.{Truncated, ReadFault}
 use Rattle.pgw_tree.specs.Tree.{Shape, Value}
 use Rattle.pgw_tree.specs.Spells.{SpellsRow, FitsRow}
-use Rattle.pgw_tree.specs.Canonical.{canonical_row, canonical_front}
+use Rattle.pgw_tree.specs.Canonical.{canonical_front}
 use Rattle.pgw_tree.specs.Stream.{Limits, IsFront, IsWithin}
 
 -- a row whose first cells spell these values, which fit
@@ -25,11 +25,6 @@ pub record TakesPart {X : Type 0} (before now : Option (List ℕ)) (failed : Typ
   pub err : (e : CopyFault) → result ≡ Err e → Took before now (Fault e)
   pub at_end : result ≡ Err Truncated → IsAtEnd now
   pub has_failed : result ≡ Err ReadFault → failed
-
--- Of a call that takes a row or the end: a row whose values fit, and its canonical row to be written; or the end.
-abbrev pub IsTurn : Limits → List Shape → List ℕ → Bool → List ℕ → Type 0
-IsTurn limits columns to_write true bytes = (values : List Value) × IsValuesRow limits.field_max columns bytes values × (to_write ≡ canonical_row columns values)
-IsTurn limits columns to_write false bytes = bytes ≡ trailer
 
 -- the rows so far: the front that spells them was taken, and its canonical form was written
 pub record IsCopying (limits : Limits) (columns : List Shape) (n : ℕ) (Written : List ℕ → Type 0) (taken : List ℕ) : Type 0 where

@@ -1,6 +1,7 @@
-ghost use Rattle.std.specs.Prelude.{◌≡◌, ◌<◌, ◌≤◌, ◌^◌, ◌++◌, List, ℕ, length, Some, IfSome, IsNone, IfErr, OnOk, OnErr, Err};
+ghost use Rattle.std.specs.Prelude.{◌≡◌, ◌≢◌, ◌<◌, ◌≤◌, ◌^◌, ◌++◌, List, ℕ, length, Some, IfSome, IsNone, IfErr, OnOk, OnErr, Err};
 ghost use Rattle.std.specs.List.{flat_map};
 ghost use Rattle.std.specs.Str.{is_utf8};
+ghost use Rattle.std.specs.Io.{StartsWith};
 ghost use Rattle.pgw_wire.specs.Cell.{Cell, cell_of, frame};
 ghost use Rattle.pgw_copy.specs.State.{cells_of};
 ghost use Rattle.pgw_tree.specs.Tree.{Value, shape, shapes, int4, text};
@@ -17,14 +18,23 @@ use pgw_wire::{Break, ByteBuffer, NoMemory as NoMemoryLeft, RawCell};
 const NULL: [u8; 4] = [0xff; 4];
 
 /// Whether the bytes are UTF-8.
-fn is_text(bytes: &[u8]) -> bool
+#[inline(never)]
+fn is_wide_text(bytes: &[u8]) -> bool
     ensures { result ≡ is_utf8 bytes.now }
 {
     str::from_utf8(bytes).is_ok()
 }
 
+/// Whether the bytes are UTF-8. Most are ASCII, for which the test is short: it alone is inlined.
+#[inline(always)]
+fn is_text(bytes: &[u8]) -> bool
+    ensures { result ≡ is_utf8 bytes.now }
+{
+    bytes.is_ascii() || is_wide_text(bytes)
+}
+
 /// In which kind the piece breaks as an int4, which any four bytes spell.
-fn break_of_int4(piece: &[u8]) -> Option<Break>
+pub(crate) fn break_of_int4(piece: &[u8]) -> Option<Break>
     ensures some { IfSome result (λ kind. BreaksPiece int4 kind piece.now) }
     ensures none { IsNone result → (v : Value) × SpellsPiece int4 piece.now v }
 {
@@ -36,7 +46,8 @@ fn break_of_int4(piece: &[u8]) -> Option<Break>
 }
 
 /// In which kind the piece breaks as a text, which any UTF-8 spells.
-fn break_of_text(piece: &[u8]) -> Option<Break>
+#[inline(always)]
+pub(crate) fn break_of_text(piece: &[u8]) -> Option<Break>
     ensures some { IfSome result (λ kind. BreaksPiece text kind piece.now) }
     ensures none { IsNone result → (v : Value) × SpellsPiece text piece.now v }
 {
@@ -61,6 +72,7 @@ fn break_of(column: FirstType, cell: RawCell<'_>) -> Option<Break>
 }
 
 /// Why the field of a cell was not appended.
+#[derive(Drop)]
 pub(crate) enum CellFault {
     /// The cell breaks in this kind.
     Break(Break),
@@ -82,7 +94,7 @@ impl From<NoMemoryLeft> for CellFault {
 
 /// Appends the canonical field of the value that the cell spells. Where memory is refused, a part of it may be
 /// appended.
-fn push_field(
+pub(crate) fn push_field(
     column: FirstType,
     cell: RawCell<'_>,
     field_max: u32,
@@ -93,6 +105,7 @@ fn push_field(
     ensures broken { (kind : _) → result ≡ Err (CellFault.Break kind) → Breaks (shape column) kind (cell_of cell.entry) }
     ensures long { result ≡ Err CellFault.TooLong
         → (v : Value) × Spells (shape column) (cell_of cell.entry) v × (Fits field_max (shape column) v → ⊥) }
+    ensures kept { StartsWith out.new.bytes out.old.bytes }
 {
     if let Some(kind) = break_of(column, cell) {
         return Err(CellFault::Break(kind));
@@ -110,7 +123,7 @@ fn push_field(
     Ok(())
 }
 
-/// Why the fields of a row were not appended.
+/// Why the canonical form of a row was not made or not written.
 pub(crate) enum RowFault {
     /// It has fewer fields than there are columns.
     TooFew,
@@ -118,6 +131,8 @@ pub(crate) enum RowFault {
     BadValue { column: usize, kind: Break },
     /// The value of this column has more canonical bytes than the limit.
     TooLong { column: usize },
+    /// The sink failed.
+    WriteFault,
     /// Memory was asked for and refused.
     NoMemory,
 }
@@ -138,6 +153,7 @@ pub(crate) fn push_columns(
         → BreaksAt field_max (shapes columns.now) (cells_of row.now) column kind }
     ensures too_long { (column : _) → result ≡ Err (RowFault.TooLong column)
         → IsLongAt field_max (shapes columns.now) (cells_of row.now) column }
+    ensures no_write { result ≢ Err RowFault.WriteFault }
 {
     if row.len() < columns.len() {
         return Err(RowFault::TooFew);

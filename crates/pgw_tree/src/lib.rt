@@ -3,9 +3,13 @@
 
 mod cells;
 mod fault;
+mod fields;
 mod limits;
 mod list;
+mod plain;
 mod recopy;
+mod respell;
+mod shown;
 #[cfg(test)]
 mod tests;
 mod turn;

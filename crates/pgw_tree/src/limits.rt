@@ -1,5 +1,6 @@
-ghost use Rattle.std.specs.Prelude.{◌≡◌, ◌↔◌, ◌<◌, IfSome, IsNone};
-ghost use Rattle.pgw_tree.specs.Handed.{limits_of};
+ghost use Rattle.std.specs.Prelude.{◌≡◌, ◌↔◌, ◌<◌, ◌≤◌, IfSome, IsNone};
+
+use std::marker::Model;
 
 /// The longest field that PostgreSQL's format can state.
 const FIELD_MAX: u32 = i32::MAX as u32;
@@ -11,11 +12,26 @@ pub struct Limits {
     field_max: u32,
 }
 
+impl Model for Limits {
+    ghost use Rattle.std.specs.Prelude.{◌≤◌};
+    ghost use Rattle.pgw_tree.specs.Stream.{Limits as Bounds, limits_code};
+
+    ghost Value = { Bounds };
+
+    ghost coded = { limits_code };
+
+    ghost view = { λ l. record { rows_max = l.rows_max; field_max = l.field_max } };
+
+    ghost inverse = { λ l. record { rows_max = l.rows_max; field_max = l.field_max } };
+
+    ghost invariant = { λ l. l.field_max ≤ 2147483647 };
+}
+
 impl Limits {
     /// At most `rows_max` rows, and canonical fields of at most `field_max` bytes. None exactly where `field_max` passes
     /// 2147483647, the longest field that the format can state.
     pub fn new(rows_max: u64, field_max: u32) -> Option<Limits>
-        ensures some { IfSome result (λ limits. limits_of limits ≡ record { rows_max = rows_max; field_max = field_max }) }
+        ensures some { IfSome result (λ limits. limits ≡ record { rows_max = rows_max; field_max = field_max }) }
         ensures none { IsNone result ↔ (2147483647 < field_max) }
     {
         if field_max > FIELD_MAX {
@@ -30,14 +46,15 @@ impl Limits {
 
     /// How many rows are copied at most.
     pub fn rows_max(&self) -> u64
-        ensures { result ≡ (limits_of self.now).rows_max }
+        ensures { result ≡ self.now.rows_max }
     {
         self.rows_max
     }
 
     /// How many bytes a canonical field has at most.
     pub fn field_max(&self) -> u32
-        ensures { result ≡ (limits_of self.now).field_max }
+        ensures value { result ≡ self.now.field_max }
+        ensures most { result ≤ 2147483647 }
     {
         self.field_max
     }

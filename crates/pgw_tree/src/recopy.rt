@@ -3,10 +3,10 @@ ghost use Rattle.std.specs.Io.KnownBytes.{Appends, IsAtEnd};
 ghost use Rattle.pgw_wire.specs.Outside.{HasFailed, Took, HasFront, HasNoFront, Gains, Wrote};
 ghost use Rattle.pgw_tree.specs.Tree.{shapes};
 ghost use Rattle.pgw_tree.specs.Stream.{IsValidStream};
-ghost use Rattle.pgw_tree.specs.Handed.{limits_of};
 ghost use Rattle.pgw_tree.specs.Causes.{IsCopied, fault_says};
 
-use crate::turn::next_row;
+use crate::shown::copy_shown;
+use crate::turn::copy_row;
 use crate::{CopyFault, FirstType, Limits};
 use pgw_copy::{CopyReader, CopyWriter};
 use pgw_wire::{Sink, Source};
@@ -22,9 +22,9 @@ fn copy_stream<S: Source, K: Sink>(
 ) -> Result<u64, CopyFault>
     requires { length columns.now < 2 ^ 15 }
     ensures copied { (n : _) → result ≡ Ok n → Took (S.left source.old) (S.left source.new)
-        (IsCopied (limits_of limits) (shapes columns.now) n (Appends (K.gained sink.old) (K.gained sink.new))) }
+        (IsCopied limits (shapes columns.now) n (Appends (K.gained sink.old) (K.gained sink.new))) }
     ensures fault { (fault : _) → result ≡ Err fault → Took (S.left source.old) (S.left source.new)
-        (fault_says (limits_of limits) (shapes columns.now) fault
+        (fault_says limits (shapes columns.now) fault
         (Wrote (K.gained sink.old) (K.gained sink.new) (K.settled sink.old) (K.settled sink.new))) }
     ensures at_end { result ≡ Err CopyFault.Truncated → IsAtEnd (S.left source.new) }
     ensures read_fault { result ≡ Err CopyFault.ReadFault
@@ -40,10 +40,17 @@ fn copy_stream<S: Source, K: Sink>(
     let mut reader = CopyReader::start(alloc, source)?;
     let mut writer = CopyWriter::new(alloc);
     writer.header(sink)?;
-    let mut rows = 0u64;
-    while next_row(columns, limits, rows, &mut reader, source, &mut writer)? {
-        writer.send_row(sink)?;
-        rows += 1;
+    let mut rows = copy_shown(alloc, columns, limits, 0, source, sink)?;
+    while copy_row(
+        columns,
+        limits,
+        rows,
+        &mut reader,
+        source,
+        &mut writer,
+        sink,
+    )? {
+        rows = copy_shown(alloc, columns, limits, rows + 1, source, sink)?;
     }
     writer.trailer(sink)?;
     Ok(rows)
@@ -53,7 +60,7 @@ fn copy_stream<S: Source, K: Sink>(
 /// bytes taken are one stream of as many rows as it answers, through the count -1 that ends it, and the bytes written
 /// are the canonical stream of the same rows. Fields behind the last column are read and ignored.
 ///
-/// Faults are met in the order of the stream's bytes. A row is read whole before its fields are looked at, column by
+/// Faults are met in the order of the stream's bytes. A row is refused for its fields only where it is whole, column by
 /// column. The sink gets the header once the stream's header was read, and each row once all its columns were found good.
 ///
 /// | fault | cause | what was written |
@@ -71,8 +78,10 @@ fn copy_stream<S: Source, K: Sink>(
 /// | `WriteFault` | the sink failed | header and rows; the end of what was written last may be missing |
 /// | `NoMemory` | memory for a row was asked for and refused | header and rows before |
 ///
-/// One row is held in memory, as it was read and in its canonical form. Tests and not clauses show that each row is
-/// written once it is read, that the sink is flushed once, behind the end, and that no read is made that is not needed.
+/// Rows that stand whole in what the source shows are copied from there: those that are canonical as they stand in one piece,
+/// others by way of a buffer, as many at once as have up to 32768 bytes. Any other row is held in memory as it was read, and
+/// in its canonical form too where that is another. Tests and not clauses show that the rows which were read are written
+/// before more is read, that the sink is flushed once, behind the end, and that no read is made that is not needed.
 pub fn recopy_first<S: Source, K: Sink>(
     alloc: Global,
     columns: &[FirstType],
@@ -86,12 +95,12 @@ pub fn recopy_first<S: Source, K: Sink>(
     // The bytes taken are a stream that spells as many rows as it answers, and the bytes written are their canonical
     // stream.
     ensures copied { IfOk result (λ n. Took (S.left source.old) (S.left source.new)
-        (IsCopied (limits_of limits) (shapes columns.now) n (Appends (K.gained sink.old) (K.gained sink.new)))) }
+        (IsCopied limits (shapes columns.now) n (Appends (K.gained sink.old) (K.gained sink.new)))) }
     ensures settled { OnOk result (K.settled sink.new ≡ option_map (λ _. true) (K.settled sink.old)) }
 
     // What each fault says of the bytes that were taken, and of those that were written.
     ensures fault { (fault : _) → result ≡ Err fault → Took (S.left source.old) (S.left source.new)
-        (fault_says (limits_of limits) (shapes columns.now) fault
+        (fault_says limits (shapes columns.now) fault
         (Wrote (K.gained sink.old) (K.gained sink.new) (K.settled sink.old) (K.settled sink.new))) }
     ensures truncated { result ≡ Err CopyFault.Truncated → IsAtEnd (S.left source.new) }
     ensures read_fault { result ≡ Err CopyFault.ReadFault
@@ -100,13 +109,13 @@ pub fn recopy_first<S: Source, K: Sink>(
         → HasFailed (K.fault_count sink.old) (K.fault_count sink.new) }
 
     // A valid stream is copied, unless memory runs out or an object outside failed.
-    ensures complete { HasFront (S.left source.old) (IsValidStream (limits_of limits) (shapes columns.now))
+    ensures complete { HasFront (S.left source.old) (IsValidStream limits (shapes columns.now))
         → (HasFailed (S.fault_count source.old) (S.fault_count source.new) → ⊥)
         → (HasFailed (K.fault_count sink.old) (K.fault_count sink.new) → ⊥)
         → IsOkUnless result CopyFault.NoMemory }
 
     // What is told to begin with no valid stream is not copied.
-    ensures refused { HasNoFront (S.left source.old) (IsValidStream (limits_of limits) (shapes columns.now)) → IsErr result }
+    ensures refused { HasNoFront (S.left source.old) (IsValidStream limits (shapes columns.now)) → IsErr result }
 
     // What is left, whatever it answers.
     ensures taken { Took (S.left source.old) (S.left source.new) (λ _. ⊤) }

@@ -78,7 +78,7 @@ fn copy_front(from: &[u8], to: &mut [u8]) -> usize
 }
 
 /// A source over a reader that has a buffer. A read gives bytes of the buffer, which is filled first where it is empty. So
-/// each byte is copied once, where a `ReadSource` copies it twice.
+/// each byte is copied once, where a `ReadSource` copies it twice. It shows what its buffer holds, which is not copied.
 ///
 /// At the end of the reader one more read of it, of one byte, finds that nothing is left.
 #[derive(Drop)]

@@ -20,7 +20,7 @@ use Rattle.pgcopy.proofs.Told.{ok_and_map}
 use Rattle.pgcopy.proofs.edge.copy.Goals as goal
 
 -- A buffer that was filled with nothing yet leaves what its reader leaves.
-fresh : (capacity : ℕ) (buffer : List ℕ) (inner : Option (List ℕ)) (left : List ℕ) → capacity ≡ 65536 → buffer ≡ [] → inner ≡ Some left → (if capacity == 0 then None else prepend_known buffer inner) ≡ Some left
+fresh : (capacity : ℕ) (buffer : List ℕ) (inner : Option (List ℕ)) (left : List ℕ) → capacity ≡ 262144 → buffer ≡ [] → inner ≡ Some left → (if capacity == 0 then None else prepend_known buffer inner) ≡ Some left
 fresh capacity buffer inner left room empty told = rw (room, empty, told) refl
 
 pub returns-clause-copied : goal.returns-clause-copied

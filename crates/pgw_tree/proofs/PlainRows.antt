@@ -1,0 +1,163 @@
+-- Bytes that are canonical as they stand.
+use Rattle.std.proofs.Common.{◌≡◌, ℕ, ◌<◌, ◌≤◌, ◌^◌, List, [], ◌∷◌, ◌++◌, length, true, None, Some, refl, sym, ap, ◌∙◌, arith, append_assoc, append-nil, subst, length-append, lit<, Option, take, ◌-◌}
+use Rattle.std.specs.Prelude.{IfSome, IsSome, IsNone}
+use Rattle.std.proofs.Math.Seq.{take-append_seam, take-length}
+use Rattle.std.specs.Io.{StartsWith}
+use Rattle.pgw_copy.proofs.Lists.{same_front, same_rest}
+use Rattle.pgw_copy.proofs.Numbers.{same_number_2}
+use Rattle.pgw_tree.proofs.Unique.{cells_once}
+use Rattle.std.specs.List.{flat_map, AllByRecursion}
+use Rattle.std.specs.Int.{to_be_bytes, w16}
+use Rattle.std.proofs.lemmas.Grind.{flat_map-append}
+use Rattle.pgw_wire.specs.Cell.{Cell, frame}
+use Rattle.pgw_copy.specs.Format.{IsField, AreFields, IsRow}
+use Rattle.pgw_tree.specs.Tree.{Shape, Value, nullable, null, is_nullable}
+use Rattle.pgw_tree.specs.Spells.{Spells, SpellsPiece, SpellsRow, FitsRow, canonical_cell, size_of}
+use Rattle.pgw_tree.specs.Canonical.{canonical_cells, canonical_row}
+use Rattle.pgw_tree.specs.Stream.{AreRows}
+use Rattle.pgw_tree.specs.Plain.{IsPlainPieceBefore, IsPlainField, IsPlainRow, ArePlainRows}
+use Rattle.pgw_copy.proofs.Fields.{fields_append}
+use Rattle.pgw_tree.proofs.Pieces.{canonical_is}
+use Rattle.pgw_tree.proofs.Prefixes.{spells_more, fits_more, canonical_more}
+
+pub plain_piece : (most : ℕ) (t : Shape) (piece : List ℕ) (v : Value) → most < 2 ^ 31 → SpellsPiece t piece v → length piece ≤ most → IsPlainField most t (frame (Some piece))
+plain_piece most t piece v max spelled long =
+    let is = canonical_is t piece v spelled in
+    record {
+      value = v;
+      spells = subst (λ (c : Cell). Spells t c v) (sym is) spelled;
+      fits = subst (λ (c : Cell). size_of c ≤ most) (sym is) long;
+      field = subst (λ (c : Cell). IsField c (frame (Some piece))) (sym is) (omega (arith, max, long), refl);
+      is = ap frame (sym is);
+    }
+
+canonical_null : (t : Shape) → canonical_cell t null ≡ None
+canonical_null t = refl
+
+pub plain_null : (most : ℕ) (t : Shape) → is_nullable t ≡ true → IsPlainField most t (frame None)
+plain_null most t may_be = record {
+  value = null;
+  spells = (may_be, refl);
+  fits = omega arith;
+  field = (4294967295, lit< tt, lit< tt, refl);
+  is = refl;
+}
+
+-- what the field of a piece in front of the rest says of a type
+pub plain_at : (most : ℕ) (t u : Shape) (bytes rest : List ℕ) → most < 2 ^ 31 → u ≡ t → IsPlainPieceBefore most t bytes rest → (field : List ℕ) × IsPlainField most u field × (bytes ≡ field ++ rest)
+plain_at most t u bytes rest max is p =
+    (frame (Some p.piece), subst (λ (s : Shape). IsPlainField most s (frame (Some p.piece))) (sym is) (plain_piece most t p.piece p.value max p.spells p.long), p.is)
+
+-- A nullable type has the pieces of its part.
+pub plain_nullable : (most : ℕ) (t : Shape) (bytes rest : List ℕ) → IsPlainPieceBefore most t bytes rest → IsPlainPieceBefore most (nullable t) bytes rest
+plain_nullable most t bytes rest p = record { piece = p.piece; value = p.value; spells = p.spells; long = p.long; is = p.is }
+
+pub null_at : (most : ℕ) (t u : Shape) (bytes rest : List ℕ) → u ≡ nullable t → bytes ≡ frame None ++ rest → (field : List ℕ) × IsPlainField most u field × (bytes ≡ field ++ rest)
+null_at most t u bytes rest is e = (frame None, subst (λ (s : Shape). IsPlainField most s (frame None)) (sym is) (plain_null most (nullable t) refl), e)
+
+pub some_weaker : {A : Type 0} (r : Option A) (P Q : A → Type 0) → IfSome r P → ((x : A) → P x → Q x) → IfSome r Q
+some_weaker None P Q h w = tt
+some_weaker (Some x) P Q h w = w x h
+
+pub some_at : {A : Type 0} (r : Option A) (x : A) (P : A → Type 0) → r ≡ Some x → IfSome r P → P x
+some_at {A = A} r x P is h = subst (λ (o : Option A). IfSome o P) is h
+
+pub some_unless_none : {A : Type 0} (r : Option A) → (IsNone r → ⊥) → IsSome r
+some_unless_none None h = absurd (h refl)
+some_unless_none (Some x) h = refl
+
+-- the canonical fields of values that fit, one behind the other
+pub record IsPlainFields (most : ℕ) (ts : List Shape) (vs : List Value) (bytes : List ℕ) : Type 0 where
+  pub spelled : SpellsRow ts (canonical_cells ts vs) vs
+  pub fit : FitsRow most ts vs
+  pub each : AreFields (canonical_cells ts vs) bytes
+  pub is : bytes ≡ flat_map frame (canonical_cells ts vs)
+
+pub plain_none : (most : ℕ) → IsPlainFields most [] [] []
+plain_none most = record { spelled = tt; fit = tt; each = refl; is = refl }
+
+pub cells_many : (ts : List Shape) (vs : List Value) → SpellsRow ts (canonical_cells ts vs) vs → length (canonical_cells ts vs) ≡ length ts
+cells_many [] [] s = refl
+cells_many [] (v ∷ vs) s = absurd s
+cells_many (t ∷ ts) [] s = absurd s
+cells_many (t ∷ ts) (v ∷ vs) s = omega (arith, cells_many ts vs s.1)
+
+pub plain_more : (most : ℕ) (ts : List Shape) (vs : List Value) (x : List ℕ) (t : Shape) (y : List ℕ) → IsPlainFields most ts vs x → (f : IsPlainField most t y) → IsPlainFields most (ts ++ (t ∷ [])) (vs ++ (f.value ∷ [])) (x ++ y)
+plain_more most ts vs x t y p f =
+    let cells = canonical_cells ts vs in
+    let one = canonical_cell t f.value in
+    let more = canonical_more ts cells vs t f.value p.spelled in
+    record {
+      spelled = subst (λ (cs : List Cell). SpellsRow (ts ++ (t ∷ [])) cs (vs ++ (f.value ∷ []))) (sym more) (spells_more ts cells vs t one f.value (cells_many ts vs p.spelled) p.spelled f.spells);
+      fit = fits_more most ts cells vs t f.value p.spelled p.fit f.fits;
+      each = subst (λ (cs : List Cell). AreFields cs (x ++ y)) (sym more) (fields_append cells one x y p.each f.field);
+      is = ap (λ l. l ++ y) p.is ∙ ap (λ l. flat_map frame cells ++ l) (f.is ∙ sym (append-nil (frame one))) ∙ sym (flat_map-append frame cells (one ∷ [])) ∙ ap (flat_map frame) (sym more);
+    }
+
+pub plain_row : (most : ℕ) (ts : List Shape) (vs : List Value) (x : List ℕ) (n : ℕ) → IsPlainFields most ts vs x → length ts ≡ n → n < 2 ^ 15 → IsPlainRow most ts (to_be_bytes w16 n ++ x) vs
+plain_row most ts vs x n p many few =
+    let cells = canonical_cells ts vs in
+    let as_many : length cells ≡ n = cells_many ts vs p.spelled ∙ many in
+    record {
+      row = record {
+        cells = cells;
+        is = record { fields = x; few = omega (arith, as_many, few); each = p.each; is = ap (λ k. to_be_bytes w16 k ++ x) (sym as_many) };
+        spelled = p.spelled;
+        fit = p.fit;
+      };
+      is = ap (λ k. to_be_bytes w16 k ++ x) (sym many) ∙ ap (λ l. to_be_bytes w16 (length ts) ++ l) p.is;
+    }
+
+-- one row more behind the others
+pub rows_one_more : (most : ℕ) (ts : List Shape) (x y : List ℕ) (rows : List (List Value)) (vs : List Value) → ArePlainRows most ts x rows → IsPlainRow most ts y vs → ArePlainRows most ts (x ++ y) (rows ++ (vs ∷ []))
+rows_one_more most ts x y [] vs each row = (y, [], row, refl, ap (λ l. l ++ y) each ∙ sym (append-nil y))
+rows_one_more most ts x y (ws ∷ rows) vs each row =
+    (each.0, each.1 ++ y, each.2, rows_one_more most ts each.1 y rows vs each.3 row, ap (λ l. l ++ y) each.4 ∙ append_assoc each.0 each.1 y)
+
+-- Canonical rows are rows of their values, which fit, and are written as they stand.
+pub plain_rows_each : (most : ℕ) (ts : List Shape) (x : List ℕ) (rows : List (List Value)) → ArePlainRows most ts x rows → AreRows ts x rows
+plain_rows_each most ts x [] each = each
+plain_rows_each most ts x (vs ∷ rows) each = (each.2.row.cells, each.0, each.1, each.2.row.is, each.2.row.spelled, plain_rows_each most ts each.1 rows each.3, each.4)
+
+pub plain_rows_fit : (most : ℕ) (ts : List Shape) (x : List ℕ) (rows : List (List Value)) → ArePlainRows most ts x rows → AllByRecursion (FitsRow most ts) rows
+plain_rows_fit most ts x [] each = tt
+plain_rows_fit most ts x (vs ∷ rows) each = (each.2.row.fit, plain_rows_fit most ts each.1 rows each.3)
+
+pub plain_rows_are : (most : ℕ) (ts : List Shape) (x : List ℕ) (rows : List (List Value)) → ArePlainRows most ts x rows → x ≡ flat_map (canonical_row ts) rows
+plain_rows_are most ts x [] each = each
+plain_rows_are most ts x (vs ∷ rows) each = each.4 ∙ ap (λ l. l ++ each.1) each.2.is ∙ ap (λ l. canonical_row ts vs ++ l) (plain_rows_are most ts each.1 rows each.3)
+
+-- the front of bytes, in front of this rest
+pub front_of : (bytes front rest : List ℕ) → bytes ≡ front ++ rest → take (length bytes - length rest) bytes ≡ front
+front_of bytes front rest e =
+    ap (λ k. take k bytes) (omega (arith, ap length e, length-append front rest)) ∙ ap (take (length front)) e ∙ take-append_seam front rest
+
+-- A front that is as long as the whole is the whole.
+pub all_of_front : (front bytes : List ℕ) → StartsWith bytes front → length front ≡ length bytes → front ≡ bytes
+all_of_front front bytes starts long = sym starts ∙ ap (λ n. take n bytes) long ∙ take-length bytes
+
+-- One canonical row among bytes that are canonical rows.
+pub one_plain_row : (most : ℕ) (ts : List Shape) (front bytes : List ℕ) (rows : List (List Value)) → length rows ≡ 1 → ArePlainRows most ts front rows → front ≡ bytes → (values : List Value) × IsPlainRow most ts bytes values
+one_plain_row most ts front bytes [] one each all = absurd (omega (arith, one))
+one_plain_row most ts front bytes (vs ∷ []) one each all = (vs, subst (λ (l : List ℕ). IsPlainRow most ts l vs) (sym (append-nil each.0) ∙ ap (λ l. each.0 ++ l) (sym each.3) ∙ sym each.4 ∙ all) each.2)
+one_plain_row most ts front bytes (vs ∷ ws ∷ rows) one each all = absurd (omega (arith, one))
+
+-- A row that is canonical as it stands, told by its cells.
+pub cells_plain : (most : ℕ) (ts : List Shape) (cells : List Cell) (bytes : List ℕ) (values : List Value) → IsRow cells bytes → IsPlainRow most ts bytes values → SpellsRow ts cells values
+cells_plain most ts cells bytes values row plain =
+    let p = plain.row in
+    let b = to_be_bytes w16 (length p.cells) in
+    let b' = to_be_bytes w16 (length cells) in
+    let both = sym p.is.is ∙ row.is in
+    let nil : (x : List ℕ) → x ≡ x ++ [] = λ x. sym (append-nil x) in
+    let front = same_front b b' p.is.fields row.fields refl both in
+    let many = same_number_2 (length p.cells) (length cells) (omega (arith, p.is.few)) (omega (arith, row.few)) front in
+    let fields = same_rest b b' p.is.fields row.fields refl both in
+    subst (λ (cs : List Cell). SpellsRow ts cs values) (cells_once p.cells cells p.is.fields [] [] many p.is.each row.fields row.each (ap (λ l. l ++ []) fields)) p.spelled
+
+-- The one canonical row that lent bytes are, told by the cells of the row that is lent.
+pub plain_told : (most : ℕ) (ts : List Shape) (cells : List Cell) (lent bytes front : List ℕ) (rows : List (List Value)) → IsRow cells lent → bytes ≡ lent → StartsWith bytes front → length front ≡ length bytes → length rows ≡ 1 → ArePlainRows most ts front rows
+    → (values : List Value) × SpellsRow ts cells values × FitsRow most ts values × (bytes ≡ canonical_row ts values)
+plain_told most ts cells lent bytes front rows row is starts long one each =
+    let p = one_plain_row most ts front bytes rows one each (all_of_front front bytes starts long) in
+    (p.0, cells_plain most ts cells bytes p.0 (subst (λ (l : List ℕ). IsRow cells l) (sym is) row) p.1, p.1.row.fit, p.1.is)

@@ -1,0 +1,382 @@
+-- Rows that were copied from bytes that a source shows, behind those that were copied before.
+use Rattle.std.proofs.Common.{◌≡◌, ℕ, ◌+◌, ◌-◌, ◌<◌, ◌≤◌, List, [], ◌∷◌, ◌++◌, length, take, drop, Bool, Option, Result, Err, inl, inr, ◌⊎◌, refl, sym, ap, ◌∙◌, arith, subst, append_assoc, append-nil, length-append}
+use Rattle.std.specs.Int.{to_be_bytes, w16}
+use Rattle.std.specs.List.{flat_map, AllByRecursion}
+use Rattle.std.proofs.Math.Seq.{take-add, take-append-add}
+use Rattle.std.proofs.lemmas.List.{take-append-drop, take-append-le}
+use Rattle.std.proofs.lemmas.Grind.{flat_map-append}
+use Rattle.pgw_wire.specs.Outside.{Took, Wrote}
+use Rattle.pgw_wire.proofs.Taking.{took_then}
+use Rattle.pgw_wire.proofs.Adding.{wrote_then}
+use Rattle.pgw_copy.specs.Reader.{IsWholeRow}
+use Rattle.pgw_copy.specs.Writer.{WroteFront}
+use Rattle.pgw_tree.specs.Spells.{SpellsRow, FitsRow}
+use Rattle.pgw_tree.specs.Canonical.{canonical_row, canonical_front}
+use Rattle.pgw_tree.specs.Stream.{AreRows, IsFront, IsWithin, Limits}
+use Rattle.pgw_tree.specs.Turns.{IsValuesRow, IsCopying}
+use Rattle.pgw_tree.specs.Causes.{fault_says, in_row, row_cause}
+use Rattle.pgw_tree.specs.declared.fault.CopyFault.{CopyFault}
+use Rattle.pgw_tree.specs.declared.fault.CopyFault.TheVariants.{ReadFault, WriteFault}
+use Rattle.pgw_wire.specs.Cell.{Cell}
+use Rattle.pgw_copy.specs.Format.{IsRow, canonical_header}
+use Rattle.pgw_copy.proofs.Lists.{same_front, same_rest}
+use Rattle.pgw_copy.proofs.Numbers.{same_number_2}
+use Rattle.pgw_tree.specs.Tree.{Shape, Value}
+use Rattle.pgw_tree.specs.Plain.{IsPlainRow, ArePlainRows}
+use Rattle.pgw_tree.specs.Runs.{AreRespelled, EndsInRow, IsRun, IsBrokenRun, turn_fault}
+use Rattle.pgw_tree.proofs.Copies.{front_more, within_more, rows_more}
+use Rattle.pgw_tree.proofs.RowFields.{fields_once}
+use Rattle.pgw_tree.proofs.PlainRows.{rows_one_more, plain_rows_fit, plain_rows_are}
+
+-- Bytes begin with one row at most.
+pub row_once : (cells others : List Cell) (x x' behind rest : List ℕ) → IsRow cells x → IsRow others x' → x ++ behind ≡ x' ++ rest → x ≡ x'
+row_once cells others x x' behind rest r r' e =
+    let b = to_be_bytes w16 (length cells) in
+    let b' = to_be_bytes w16 (length others) in
+    let both = sym (ap (λ l. l ++ behind) r.is ∙ append_assoc b r.fields behind) ∙ e ∙ ap (λ l. l ++ rest) r'.is ∙ append_assoc b' r'.fields rest in
+    let many = same_number_2 (length cells) (length others) (omega (arith, r.few)) (omega (arith, r'.few)) (same_front b b' (r.fields ++ behind) (r'.fields ++ rest) refl both) in
+    let fields = fields_once cells others r.fields r'.fields behind rest many r.each r'.each (same_rest b b' (r.fields ++ behind) (r'.fields ++ rest) refl both) in
+    r.is ∙ ap (λ n. to_be_bytes w16 n ++ r.fields) many ∙ ap (λ l. b' ++ l) fields ∙ sym r'.is
+
+-- Rows, some of which are the bytes in front and the others the rest, and so is their canonical form.
+pub record AreSplit (most : ℕ) (columns : List Shape) (rows : List (List Value)) (canonical rest front behind : List ℕ) : Type 0 where
+  pub before : List (List Value)
+  pub after : List (List Value)
+  pub rows_are : rows ≡ before ++ after
+  pub plain : ArePlainRows most columns canonical before
+  pub plain_after : ArePlainRows most columns rest after
+  pub each : AreRows columns front before
+  pub each_after : AreRows columns behind after
+
+pub none_before : (most : ℕ) (columns : List Shape) (many : ℕ) (canonical bytes : List ℕ) (all : AreRespelled most columns many canonical bytes) → AreSplit most columns all.rows [] canonical [] bytes
+none_before most columns many canonical bytes all = record { before = []; after = all.rows; rows_are = refl; plain = refl; plain_after = all.plain; each = refl; each_after = all.each }
+
+-- The first of the rows that are the rest.
+pub record IsNext (most : ℕ) (columns : List Shape) (after : List (List Value)) (rest behind : List ℕ) : Type 0 where
+  pub values : List Value
+  pub others : List (List Value)
+  pub canonical : List ℕ
+  pub canonical_rest : List ℕ
+  pub cells : List Cell
+  pub row : List ℕ
+  pub row_rest : List ℕ
+  pub after_is : after ≡ values ∷ others
+  pub plain : IsPlainRow most columns canonical values
+  pub plain_after : ArePlainRows most columns canonical_rest others
+  pub canonical_is : rest ≡ canonical ++ canonical_rest
+  pub is_row : IsRow cells row
+  pub spelled : SpellsRow columns cells values
+  pub each_after : AreRows columns row_rest others
+  pub row_is : behind ≡ row ++ row_rest
+
+pub next_of : (most : ℕ) (columns : List Shape) (after : List (List Value)) (rest behind : List ℕ) → ArePlainRows most columns rest after → AreRows columns behind after → 0 < length rest → IsNext most columns after rest behind
+next_of most columns [] rest behind plain each some = absurd (omega (arith, some, ap length plain))
+next_of most columns (vs ∷ after) rest behind plain each some = record {
+  values = vs;
+  others = after;
+  canonical = plain.0;
+  canonical_rest = plain.1;
+  cells = each.0;
+  row = each.1;
+  row_rest = each.2;
+  after_is = refl;
+  plain = plain.2;
+  plain_after = plain.3;
+  canonical_is = plain.4;
+  is_row = each.3;
+  spelled = each.4;
+  each_after = each.5;
+  row_is = each.6;
+}
+
+-- what stands behind a row at the front, which is known to be one
+cut_at : (cells others : List Cell) (row rest cut behind bytes : List ℕ) → IsRow cells row → IsRow others cut → bytes ≡ row ++ rest → bytes ≡ cut ++ behind → (row ≡ cut) × (rest ≡ behind)
+cut_at cells others row rest cut behind bytes r q is e =
+    let both = sym is ∙ e in
+    let same = row_once cells others row cut rest behind r q both in
+    (same, same_rest row cut rest behind (ap length same) both)
+
+-- the row that was walked over in the canonical form, and the one among the bytes
+pub record IsCutAt (rest behind canonical canonical_rest row row_rest : List ℕ) : Type 0 where
+  pub canonical_row : IsWholeRow canonical
+  pub canonical_is : rest ≡ canonical ++ canonical_rest
+  pub is_row : IsWholeRow row
+  pub row_is : behind ≡ row ++ row_rest
+
+pub one_before : (most : ℕ) (columns : List Shape) (rows : List (List Value)) (canonical rest front behind cut cut_rest row row_rest : List ℕ) → AreSplit most columns rows canonical rest front behind → 0 < length rest → IsCutAt rest behind cut cut_rest row row_rest → AreSplit most columns rows (canonical ++ cut) cut_rest (front ++ row) row_rest
+one_before most columns rows canonical rest front behind cut cut_rest row row_rest s some at =
+    let n = next_of most columns s.after rest behind s.plain_after s.each_after some in
+    let same = cut_at n.plain.row.cells at.canonical_row.0 n.canonical n.canonical_rest cut cut_rest rest n.plain.row.is at.canonical_row.1 n.canonical_is at.canonical_is in
+    let same_row = cut_at n.cells at.is_row.0 n.row n.row_rest row row_rest behind n.is_row at.is_row.1 n.row_is at.row_is in
+    record {
+      before = s.before ++ (n.values ∷ []);
+      after = n.others;
+      rows_are = s.rows_are ∙ ap (λ l. s.before ++ l) n.after_is ∙ sym (append_assoc s.before (n.values ∷ []) n.others);
+      plain = rows_one_more most columns canonical cut s.before n.values s.plain (subst (λ (l : List ℕ). IsPlainRow most columns l n.values) same.0 n.plain);
+      plain_after = subst (λ (l : List ℕ). ArePlainRows most columns l n.others) same.1 n.plain_after;
+      each = rows_more columns front row s.before n.cells n.values s.each (subst (λ (l : List ℕ). IsRow n.cells l) same_row.0 n.is_row) n.spelled;
+      each_after = subst (λ (l : List ℕ). AreRows columns l n.others) same_row.1 n.each_after;
+    }
+
+pub ends_in : (most : ℕ) (columns : List Shape) (rows : List (List Value)) (canonical rest front behind cut cut_rest row row_rest bytes : List ℕ) (sent : ℕ) → AreSplit most columns rows canonical rest front behind → 0 < length rest → IsCutAt rest behind cut cut_rest row row_rest
+    → length canonical ≤ sent → sent < length canonical + length cut → bytes ≡ front ++ row → EndsInRow most columns rows sent bytes
+ends_in most columns rows canonical rest front behind cut cut_rest row row_rest bytes sent s some at begun ends is =
+    let n = next_of most columns s.after rest behind s.plain_after s.each_after some in
+    let same = cut_at n.plain.row.cells at.canonical_row.0 n.canonical n.canonical_rest cut cut_rest rest n.plain.row.is at.canonical_row.1 n.canonical_is at.canonical_is in
+    let same_row = cut_at n.cells at.is_row.0 n.row n.row_rest row row_rest behind n.is_row at.is_row.1 n.row_is at.row_is in
+    let must = plain_rows_are most columns canonical s.before s.plain in
+    let last : cut ≡ canonical_row columns n.values = sym same.0 ∙ n.plain.is in
+    record {
+      before = s.before;
+      last = n.values;
+      after = n.others;
+      front = front;
+      row = row;
+      rows_are = s.rows_are ∙ ap (λ l. s.before ++ l) n.after_is;
+      each = s.each;
+      is_last = record { cells = n.cells; is = subst (λ (l : List ℕ). IsRow n.cells l) same_row.0 n.is_row; spelled = n.spelled; fit = n.plain.row.fit };
+      is = is;
+      begun = omega (arith, begun, ap length must);
+      ends = omega (arith, ends, ap length must, ap length last);
+    }
+
+-- Where rows are left, one stands in front of them, and so does one in front of their canonical form.
+pub no_end : (most : ℕ) (columns : List Shape) (rows : List (List Value)) (canonical rest front behind : List ℕ) → AreSplit most columns rows canonical rest front behind → 0 < length rest
+    → ((cells : List Cell) (row after : List ℕ) → IsRow cells row → rest ≡ row ++ after → ⊥) → ⊥
+no_end most columns rows canonical rest front behind s some none =
+    let n = next_of most columns s.after rest behind s.plain_after s.each_after some in
+    none n.plain.row.cells n.canonical n.canonical_rest n.plain.row.is n.canonical_is
+
+pub no_row_end : (most : ℕ) (columns : List Shape) (rows : List (List Value)) (canonical rest front behind : List ℕ) → AreSplit most columns rows canonical rest front behind → 0 < length rest
+    → ((cells : List Cell) (row after : List ℕ) → IsRow cells row → behind ≡ row ++ after → ⊥) → ⊥
+no_row_end most columns rows canonical rest front behind s some none =
+    let n = next_of most columns s.after rest behind s.plain_after s.each_after some in
+    none n.cells n.row n.row_rest n.is_row n.row_is
+
+rows_append : (ts : List Shape) (body x : List ℕ) (rows more : List (List Value)) → AreRows ts body rows → AreRows ts x more → AreRows ts (body ++ x) (rows ++ more)
+rows_append ts body x [] more each k = subst (λ (l : List ℕ). AreRows ts (l ++ x) more) (sym each) k
+rows_append ts body x (ws ∷ rows) more each k =
+    (each.0, each.1, each.2 ++ x, each.3, each.4, rows_append ts each.2 x rows more each.5 k, ap (λ l. l ++ x) each.6 ∙ append_assoc each.1 each.2 x)
+
+all_append : {A : Type 0} (P : A → Type 0) (xs ys : List A) → AllByRecursion P xs → AllByRecursion P ys → AllByRecursion P (xs ++ ys)
+all_append P [] ys h k = k
+all_append P (x ∷ xs) ys h k = (h.0, all_append P xs ys h.1 k)
+
+front_append : (ts : List Shape) (front x : List ℕ) (rows more : List (List Value)) → IsFront ts front rows → AreRows ts x more → IsFront ts (front ++ x) (rows ++ more)
+front_append ts front x rows more f each = record {
+  header = f.header;
+  body = f.body ++ x;
+  begins = f.begins;
+  each = rows_append ts f.body x rows more f.each each;
+  is = ap (λ l. l ++ x) f.is ∙ append_assoc f.header f.body x;
+}
+
+canonical_append : (ts : List Shape) (rows more : List (List Value)) → canonical_front ts (rows ++ more) ≡ canonical_front ts rows ++ flat_map (canonical_row ts) more
+canonical_append ts rows more =
+    ap (λ l. canonical_header ++ l) (flat_map-append (canonical_row ts) rows more) ∙ sym (append_assoc canonical_header (flat_map (canonical_row ts) rows) (flat_map (canonical_row ts) more))
+
+within_append : (limits : Limits) (ts : List Shape) (rows more : List (List Value)) → IsWithin limits ts rows → AllByRecursion (FitsRow limits.field_max ts) more → length rows + length more ≤ limits.rows_max → IsWithin limits ts (rows ++ more)
+within_append limits ts rows more w fit few = record {
+  few = omega (arith, few, length-append rows more);
+  fit = all_append (FitsRow limits.field_max ts) rows more w.fit fit;
+}
+
+-- Nothing was copied.
+pub run_none : (limits : Limits) (ts : List Shape) (n : ℕ) (Written : List ℕ → Type 0) → n ≤ limits.rows_max → Written [] → IsRun limits ts n n Written []
+run_none limits ts n Written few written = record { rows = []; each = refl; fit = tt; counted = omega arith; few = few; written = written }
+
+-- Rows were copied, whose canonical form was written.
+pub run_whole : (limits : Limits) (ts : List Shape) (n many : ℕ) (Written : List ℕ → Type 0) (canonical bytes : List ℕ) → n + many ≤ limits.rows_max → AreRespelled limits.field_max ts many canonical bytes → Written canonical → IsRun limits ts n (n + many) Written bytes
+run_whole limits ts n many Written canonical bytes few all written = record {
+  rows = all.rows;
+  each = all.each;
+  fit = plain_rows_fit limits.field_max ts canonical all.rows all.plain;
+  counted = omega (arith, all.as_many);
+  few = few;
+  written = subst Written (plain_rows_are limits.field_max ts canonical all.rows all.plain) written;
+}
+
+-- Rows were copied, and rows behind them.
+pub run_more : (limits : Limits) (ts : List Shape) (n m k : ℕ) {a b c : Option (List ℕ)} {s t u : Option Bool} (x y : List ℕ) → IsRun limits ts n m (Wrote a b s t) x → IsRun limits ts m k (Wrote b c t u) y → IsRun limits ts n k (Wrote a c s u) (x ++ y)
+run_more limits ts n m k {a = a} {c = c} {s = s} {u = u} x y r q = record {
+  rows = r.rows ++ q.rows;
+  each = rows_append ts x y r.rows q.rows r.each q.each;
+  fit = all_append (FitsRow limits.field_max ts) r.rows q.rows r.fit q.fit;
+  counted = omega (arith, r.counted, q.counted, length-append r.rows q.rows);
+  few = q.few;
+  written = subst (λ (l : List ℕ). Wrote a c s u l) (sym (flat_map-append (canonical_row ts) r.rows q.rows)) (wrote_then r.written q.written);
+}
+
+-- One row was copied.
+pub run_one : (limits : Limits) (ts : List Shape) (n : ℕ) (Written : List ℕ → Type 0) (row : List ℕ) (vs : List Value) → n < limits.rows_max → IsValuesRow limits.field_max ts row vs → Written (canonical_row ts vs) → IsRun limits ts n (n + 1) Written row
+run_one limits ts n Written row vs more r written = record {
+  rows = vs ∷ [];
+  each = (r.cells, row, [], r.is, r.spelled, refl, sym (append-nil row));
+  fit = (r.fit, tt);
+  counted = refl;
+  few = omega (arith, more);
+  written = subst Written (sym (append-nil (canonical_row ts vs))) written;
+}
+
+-- The sink failed in one row.
+pub broken_one : (limits : Limits) (ts : List Shape) (n : ℕ) {a b : Option (List ℕ)} {s t : Option Bool} (row : List ℕ) (vs : List Value) → n < limits.rows_max → IsValuesRow limits.field_max ts row vs → WroteFront a b s t (canonical_row ts vs) → IsBrokenRun limits ts n (Wrote a b s t) row
+broken_one limits ts n row vs more r w = record {
+  rows = [];
+  last = vs;
+  front = [];
+  row = row;
+  each = refl;
+  fit = tt;
+  is_last = r;
+  is = refl;
+  few = omega (arith, more);
+  part = record { front = w.front; rest = w.rest; is = w.splits; written = w.wrote };
+}
+
+-- so many bytes of some rows, of one row more, and of what is behind
+sent_part : (must last more : List ℕ) (sent : ℕ) → length must ≤ sent → sent < length must + length last → take sent (must ++ (last ++ more)) ≡ must ++ take (sent - length must) last
+sent_part must last more sent begun ends =
+    let part = sent - length must in
+    let split : sent ≡ length must + part = omega (arith, begun) in
+    ap (λ k. take k (must ++ (last ++ more))) split ∙ take-append-add must (last ++ more) part ∙ ap (λ l. must ++ l) (take-append-le part last more (omega (arith, ends, begun)))
+
+-- The canonical form of rows, of which one is the last that was sent.
+form_of : (ts : List Shape) (before after : List (List Value)) (last : List Value) → flat_map (canonical_row ts) (before ++ (last ∷ after)) ≡ flat_map (canonical_row ts) before ++ (canonical_row ts last ++ flat_map (canonical_row ts) after)
+form_of ts before after last = flat_map-append (canonical_row ts) before (last ∷ after)
+
+fit_before : {A : Type 0} (P : A → Type 0) (xs ys : List A) → AllByRecursion P (xs ++ ys) → AllByRecursion P xs
+fit_before P [] ys h = tt
+fit_before P (x ∷ xs) ys h = (h.0, fit_before P xs ys h.1)
+
+-- The sink failed in one of the rows, whose canonical form was written up to there.
+pub broken_part : (limits : Limits) (ts : List Shape) (n many sent : ℕ) {a b : Option (List ℕ)} {s t : Option Bool} (canonical run bytes : List ℕ) → n + many ≤ limits.rows_max → (all : AreRespelled limits.field_max ts many canonical run) → EndsInRow limits.field_max ts all.rows sent bytes → Wrote a b s t (take sent canonical) → IsBrokenRun limits ts n (Wrote a b s t) bytes
+broken_part limits ts n many sent {a = a} {b = b} {s = s} {t = t} canonical run bytes few all ends w =
+    let most = limits.field_max in
+    let must = flat_map (canonical_row ts) ends.before in
+    let last = canonical_row ts ends.last in
+    let part = sent - length must in
+    let form = plain_rows_are most ts canonical all.rows all.plain ∙ ap (flat_map (canonical_row ts)) ends.rows_are ∙ form_of ts ends.before ends.after ends.last in
+    let sent_is : take sent canonical ≡ must ++ take part last = ap (take sent) form ∙ sent_part must last (flat_map (canonical_row ts) ends.after) sent ends.begun ends.ends in
+    record {
+      rows = ends.before;
+      last = ends.last;
+      front = ends.front;
+      row = ends.row;
+      each = ends.each;
+      fit = fit_before (FitsRow most ts) ends.before (ends.last ∷ ends.after) (subst (AllByRecursion (FitsRow most ts)) ends.rows_are (plain_rows_fit most ts canonical all.rows all.plain));
+      is_last = ends.is_last;
+      is = ends.is;
+      few = omega (arith, few, all.as_many, ap length ends.rows_are, length-append ends.before (ends.last ∷ ends.after));
+      part = record { front = take part last; rest = drop part last; is = sym (take-append-drop part last); written = subst (λ (l : List ℕ). Wrote a b s t l) sent_is w };
+    }
+
+-- Rows were copied, and behind them the sink failed.
+pub broken_more : (limits : Limits) (ts : List Shape) (n m : ℕ) {a b c : Option (List ℕ)} {s t u : Option Bool} (x y : List ℕ) → IsRun limits ts n m (Wrote a b s t) x → IsBrokenRun limits ts m (Wrote b c t u) y → IsBrokenRun limits ts n (Wrote a c s u) (x ++ y)
+broken_more limits ts n m {a = a} {c = c} {s = s} {u = u} x y r q =
+    let must = flat_map (canonical_row ts) r.rows in
+    let more = flat_map (canonical_row ts) q.rows in
+    record {
+      rows = r.rows ++ q.rows;
+      last = q.last;
+      front = x ++ q.front;
+      row = q.row;
+      each = rows_append ts x q.front r.rows q.rows r.each q.each;
+      fit = all_append (FitsRow limits.field_max ts) r.rows q.rows r.fit q.fit;
+      is_last = q.is_last;
+      is = ap (λ l. x ++ l) q.is ∙ sym (append_assoc x q.front q.row);
+      few = omega (arith, r.counted, q.few, length-append r.rows q.rows);
+      part = record {
+        front = q.part.front;
+        rest = q.part.rest;
+        is = q.part.is;
+        written = subst (λ (l : List ℕ). Wrote a c s u l) (sym (append_assoc must more q.part.front) ∙ ap (λ l. l ++ q.part.front) (sym (flat_map-append (canonical_row ts) r.rows q.rows))) (wrote_then r.written q.part.written);
+      };
+    }
+
+-- What was copied behind rows that were copied before, as a part of all bytes.
+pub run_behind : (limits : Limits) (ts : List Shape) (n m k : ℕ) {a b c : Option (List ℕ)} {s t u : Option Bool} (bytes rest : List ℕ) (len more : ℕ) → rest ≡ drop len bytes → IsRun limits ts n m (Wrote a b s t) (take len bytes) → IsRun limits ts m k (Wrote b c t u) (take more rest) → IsRun limits ts n k (Wrote a c s u) (take (len + more) bytes)
+run_behind limits ts n m k {a = a} {c = c} {s = s} {u = u} bytes rest len more is r q =
+    subst (λ (l : List ℕ). IsRun limits ts n k (Wrote a c s u) l) (ap (λ l. take len bytes ++ take more l) is ∙ sym (take-add len more bytes)) (run_more limits ts n m k (take len bytes) (take more rest) r q)
+
+pub broken_behind : (limits : Limits) (ts : List Shape) (n m : ℕ) {a b c : Option (List ℕ)} {s t u : Option Bool} (bytes rest : List ℕ) (len more : ℕ) → rest ≡ drop len bytes → IsRun limits ts n m (Wrote a b s t) (take len bytes) → IsBrokenRun limits ts m (Wrote b c t u) (take more rest) → IsBrokenRun limits ts n (Wrote a c s u) (take (len + more) bytes)
+broken_behind limits ts n m {a = a} {c = c} {s = s} {u = u} bytes rest len more is r q =
+    subst (λ (l : List ℕ). IsBrokenRun limits ts n (Wrote a c s u) l) (ap (λ l. take len bytes ++ take more l) is ∙ sym (take-add len more bytes)) (broken_more limits ts n m (take len bytes) (take more rest) r q)
+
+-- Rows that were copied behind those that a stream begins with.
+pub run_copied : (limits : Limits) (ts : List Shape) (n m : ℕ) {a b c : Option (List ℕ)} {s t u : Option Bool} (x y : List ℕ) → IsCopying limits ts n (Wrote a b s t) x → IsRun limits ts n m (Wrote b c t u) y → IsCopying limits ts m (Wrote a c s u) (x ++ y)
+run_copied limits ts n m {a = a} {c = c} {s = s} {u = u} x y k r = record {
+  rows = k.rows ++ r.rows;
+  begins = front_append ts x y k.rows r.rows k.begins r.each;
+  within = within_append limits ts k.rows r.rows k.within r.fit (omega (arith, k.many, r.counted, r.few));
+  many = omega (arith, k.many, r.counted, length-append k.rows r.rows);
+  written = subst (λ (l : List ℕ). Wrote a c s u l) (sym (canonical_append ts k.rows r.rows)) (wrote_then k.written r.written);
+}
+
+-- At the end nothing was written behind the rows so far.
+pub end_copied : (limits : Limits) (ts : List Shape) (n : ℕ) {a b c : Option (List ℕ)} {s t u : Option Bool} (x : List ℕ) → IsCopying limits ts n (Wrote a b s t) x → Wrote b c t u [] → IsCopying limits ts n (Wrote a c s u) x
+end_copied limits ts n {a = a} {c = c} {s = s} {u = u} x k none = record {
+  rows = k.rows;
+  begins = k.begins;
+  within = k.within;
+  many = k.many;
+  written = subst (λ (l : List ℕ). Wrote a c s u l) (append-nil (canonical_front ts k.rows)) (wrote_then k.written none);
+}
+
+-- The source failed where nothing was taken behind the rows so far.
+pub says_read_fault : (limits : Limits) (ts : List Shape) (n : ℕ) {a b c : Option (List ℕ)} {s t u : Option Bool} (x y : List ℕ) → IsCopying limits ts n (Wrote a b s t) x → Wrote b c t u [] → y ≡ [] → fault_says limits ts ReadFault (Wrote a c s u) (x ++ y)
+says_read_fault limits ts n {a = a} {c = c} {s = s} {u = u} x y k none empty = inr (inl (record {
+  front = x;
+  behind = [];
+  rows = k.rows;
+  begins = k.begins;
+  within = k.within;
+  is = ap (λ l. x ++ l) empty;
+  cause = (inl (omega arith), λ two. omega (arith, two));
+  written = subst (λ (l : List ℕ). Wrote a c s u l) (append-nil (canonical_front ts k.rows)) (wrote_then k.written none);
+}))
+
+-- The sink failed in a row behind the rows so far.
+pub says_write_fault : (limits : Limits) (ts : List Shape) (n : ℕ) {a b c : Option (List ℕ)} {s t u : Option Bool} (x y : List ℕ) → IsCopying limits ts n (Wrote a b s t) x → IsBrokenRun limits ts n (Wrote b c t u) y → fault_says limits ts WriteFault (Wrote a c s u) (x ++ y)
+says_write_fault limits ts n {a = a} {c = c} {s = s} {u = u} x y k r =
+    let rows = k.rows ++ r.rows in
+    let more = flat_map (canonical_row ts) r.rows in
+    let front = front_more limits.field_max ts (x ++ r.front) r.row rows r.last (front_append ts x r.front k.rows r.rows k.begins r.each) r.is_last in
+    let whole = append_assoc x r.front r.row ∙ ap (λ l. x ++ l) (sym r.is) in
+    let sent = sym (append_assoc (canonical_front ts k.rows) more r.part.front) ∙ ap (λ l. l ++ r.part.front) (sym (canonical_append ts k.rows r.rows)) in
+    inr (inr (
+      refl,
+      in_row rows r.last (subst (λ (l : List ℕ). IsFront ts l (rows ++ (r.last ∷ []))) whole front)
+          (within_more limits ts rows r.last (within_append limits ts k.rows r.rows k.within r.fit (omega (arith, k.many, r.few))) (omega (arith, k.many, r.few, length-append k.rows r.rows)) r.is_last.fit)
+          (record {
+            front = r.part.front;
+            rest = r.part.rest;
+            is = r.part.is;
+            written = subst (λ (l : List ℕ). Wrote a c s u l) sent (wrote_then k.written r.part.written);
+          }),
+    ))
+
+-- what a fault of a call that takes a row or the end says of all bytes that were taken
+pub turn_says : (limits : Limits) (ts : List Shape) (n : ℕ) {a b c : Option (List ℕ)} {s t u : Option Bool} (f : CopyFault) (x y : List ℕ) → IsCopying limits ts n (Wrote a b s t) x → turn_fault limits ts n (Wrote b c t u) f y → fault_says limits ts f (Wrote a c s u) (x ++ y)
+turn_says limits ts n {a = a} {c = c} {s = s} {u = u} f x y k (inl stopped) = inr (inl (record {
+  front = x;
+  behind = y;
+  rows = k.rows;
+  begins = k.begins;
+  within = k.within;
+  is = refl;
+  cause = subst (λ (m : ℕ). row_cause limits ts m f y) (sym k.many) stopped.0;
+  written = subst (λ (l : List ℕ). Wrote a c s u l) (append-nil (canonical_front ts k.rows)) (wrote_then k.written stopped.1);
+}))
+turn_says limits ts n {a = a} {c = c} {s = s} {u = u} f x y k (inr (is, broken)) =
+    subst (λ (e : CopyFault). fault_says limits ts e (Wrote a c s u) (x ++ y)) (sym is) (says_write_fault limits ts n x y k broken)
+
+-- what a fault of copying the rows that a source shows says of all bytes that were taken
+pub shown_says : {l m r : Option (List ℕ)} {SourceFailed SinkFailed : Type 0} {X : Type 0} (limits : Limits) (ts : List Shape) (n : ℕ) {a b c : Option (List ℕ)} {s t u : Option Bool} (result : Result X CopyFault) (f : CopyFault) → result ≡ Err f
+    → Took l m (IsCopying limits ts n (Wrote a b s t)) → (result ≡ Err ReadFault → Took m r (λ taken. taken ≡ []) × Wrote b c t u [] × SourceFailed) → (result ≡ Err WriteFault → Took m r (IsBrokenRun limits ts n (Wrote b c t u)) × SinkFailed)
+    → (f ≡ ReadFault) ⊎ (f ≡ WriteFault) → Took l r (fault_says limits ts f (Wrote a c s u))
+shown_says {l = l} {r = r} limits ts n {a = a} {c = c} {s = s} {u = u} result f is k at_source at_sink (inl read) =
+    let h = at_source (is ∙ ap Err read) in
+    subst (λ (e : CopyFault). Took l r (fault_says limits ts e (Wrote a c s u))) (sym read) (took_then k h.0 (λ x y so_far empty. says_read_fault limits ts n x y so_far h.1 empty))
+shown_says {l = l} {r = r} limits ts n {a = a} {c = c} {s = s} {u = u} result f is k at_source at_sink (inr write) =
+    let h = at_sink (is ∙ ap Err write) in
+    subst (λ (e : CopyFault). Took l r (fault_says limits ts e (Wrote a c s u))) (sym write) (took_then k h.0 (λ x y so_far broken. says_write_fault limits ts n x y so_far broken))

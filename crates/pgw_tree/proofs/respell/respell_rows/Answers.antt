@@ -1,0 +1,18 @@
+use Rattle.std.proofs.Common.{◌≡◌, ◌++◌, length, sym, ap, ◌∙◌, arith, append_assoc}
+use Rattle.std.proofs.lemmas.List.{length-map}
+use Rattle.pgw_tree.specs.Tree.{shape, shapes}
+use Rattle.pgw_tree.proofs.Respelled.{respelled_row_more}
+use Rattle.pgw_tree.proofs.respell.respell_rows.Goals as goal
+
+pub loop-goes_on-preserved : goal.loop-goes_on-preserved
+loop-goes_on-preserved c =
+    let ts = shapes c.args.columns.now in
+    let inv = c.loop-goes_on.invariant in
+    let r = c.in-Some.ensures.some in
+    let columns : length ts ≡ length c.args.columns.now = length-map c.args.columns.now shape in
+    record {
+      limit = omega (arith, c.if-rows-most.true);
+      front = inv.front ++ r.0;
+      is = inv.is ∙ ap (λ l. inv.front ++ l) r.3 ∙ sym (append_assoc inv.front r.0 c.in-Some.behind.now);
+      respelled = respelled_row_more c.args.field_max ts c.loop-goes_on.rows c.loop-goes_on.out.bytes inv.front r.0 c.respell_row.new.out.bytes r.1 c.requires.max (omega (arith, columns, c.requires.few)) inv.respelled r.2 r.4;
+    }

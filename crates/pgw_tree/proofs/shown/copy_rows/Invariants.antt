@@ -1,0 +1,17 @@
+use Rattle.std.proofs.Common.{◌≡◌, ◌≤◌, ◌-◌, length, take}
+use Rattle.pgw_wire.specs.Outside.{Wrote}
+use Rattle.pgw_tree.specs.Tree.{shapes}
+use Rattle.pgw_tree.specs.Runs.{IsRun}
+use Rattle.pgw_tree.proofs.shown.copy_rows.Given as goal
+
+abbrev pub invariant-loop-rows : goal.invariant-loop-rows
+invariant-loop-rows g l = record {
+  within : l.len ≤ length l.bytes;
+  few : l.rows ≤ l.limits.rows_max;
+  run : IsRun l.limits (shapes l.columns) l.before l.rows (Wrote (g.K.Sink.gained l.fn.sink) (g.K.Sink.gained l.sink) (g.K.Sink.settled l.fn.sink) (g.K.Sink.settled l.sink)) (take l.len l.bytes);
+  faults : g.K.Sink.fault_count l.fn.sink ≤ g.K.Sink.fault_count l.sink;
+  origin : g.K.Sink.origin l.sink ≡ g.K.Sink.origin l.fn.sink;
+}
+
+abbrev pub decreases-loop-rows : goal.decreases-loop-rows
+decreases-loop-rows g l = l.limits.rows_max - l.rows

@@ -1,0 +1,34 @@
+-- Rows whose bytes are the canonical ones of their values already, so that they may be written as they stand.
+use Rattle.std.specs.Prelude.{◌≡◌, ℕ, ◌≤◌, ◌++◌, List, [], ◌∷◌, length, Some}
+use Rattle.pgw_wire.specs.Cell.{frame}
+use Rattle.pgw_copy.specs.Format.{IsField}
+use Rattle.pgw_tree.specs.Tree.{Shape, Value}
+use Rattle.pgw_tree.specs.Spells.{SpellsPiece, Spells, Fits, canonical_cell}
+use Rattle.pgw_tree.specs.Canonical.{canonical_row}
+use Rattle.pgw_tree.specs.Turns.{IsValuesRow}
+
+-- Bytes are the field of a piece, which spells a value of the type and has at most so many bytes, and the rest.
+pub record IsPlainPieceBefore (most : ℕ) (t : Shape) (bytes rest : List ℕ) : Type 0 where
+  pub piece : List ℕ
+  pub value : Value
+  pub spells : SpellsPiece t piece value
+  pub long : length piece ≤ most
+  pub is : bytes ≡ frame (Some piece) ++ rest
+
+-- the canonical field of a value of the type, which fits
+pub record IsPlainField (most : ℕ) (t : Shape) (bytes : List ℕ) : Type 0 where
+  pub value : Value
+  pub spells : Spells t (canonical_cell t value) value
+  pub fits : Fits most t value
+  pub field : IsField (canonical_cell t value) bytes
+  pub is : bytes ≡ frame (canonical_cell t value)
+
+-- the canonical row of these values, which fit
+pub record IsPlainRow (most : ℕ) (columns : List Shape) (bytes : List ℕ) (values : List Value) : Type 0 where
+  pub row : IsValuesRow most columns bytes values
+  pub is : bytes ≡ canonical_row columns values
+
+-- the canonical rows of these values, one behind the other
+abbrev pub ArePlainRows : ℕ → List Shape → List ℕ → List (List Value) → Type 0
+ArePlainRows most columns bytes [] = bytes ≡ []
+ArePlainRows most columns bytes (values ∷ rows) = (row : List ℕ) × (rest : List ℕ) × IsPlainRow most columns row values × ArePlainRows most columns rest rows × (bytes ≡ row ++ rest)

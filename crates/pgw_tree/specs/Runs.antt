@@ -1,0 +1,93 @@
+-- What the crate's own functions make of rows that stand whole in bytes, which a source shows before they are taken.
+use Rattle.std.specs.Prelude.{◌≡◌, ℕ, ◌+◌, ◌<◌, ◌≤◌, ◌++◌, ◌∷◌, List, length, take, Option, Some, None, Bool, true, false, ◌⊎◌, []}
+use Rattle.std.specs.List.{AllByRecursion, flat_map}
+use Rattle.pgw_copy.specs.Format.{AreFields, trailer}
+use Rattle.pgw_wire.specs.Cell.{Cell, frame}
+use Rattle.pgw_tree.specs.Tree.{Shape, Value}
+use Rattle.pgw_tree.specs.Spells.{SpellsRow, FitsRow}
+use Rattle.pgw_tree.specs.Canonical.{canonical_cells, canonical_row}
+use Rattle.pgw_tree.specs.Stream.{AreRows, Limits}
+use Rattle.pgw_tree.specs.Plain.{ArePlainRows}
+use Rattle.pgw_tree.specs.Causes.{PartWritten, row_cause}
+use Rattle.pgw_tree.specs.declared.fault.CopyFault.{CopyFault}
+use Rattle.pgw_tree.specs.declared.fault.CopyFault.TheVariants.{WriteFault}
+use Rattle.pgw_tree.specs.Turns.{IsValuesRow}
+use Rattle.pgw_tree.specs.declared.shown.Copied.{Copied}
+use Rattle.pgw_tree.specs.declared.shown.Copied.TheVariants.{Whole, Broken}
+
+-- So many rows, one behind the other, and their canonical form, whose fields fit.
+pub record AreRespelled (most : ℕ) (columns : List Shape) (many : ℕ) (canonical bytes : List ℕ) : Type 0 where
+  pub rows : List (List Value)
+  pub as_many : length rows ≡ many
+  pub each : AreRows columns bytes rows
+  pub plain : ArePlainRows most columns canonical rows
+
+-- Of these rows the bytes are the first ones, through the one in whose canonical form the byte behind so many is.
+pub record EndsInRow (most : ℕ) (columns : List Shape) (rows : List (List Value)) (sent : ℕ) (bytes : List ℕ) : Type 0 where
+  pub before : List (List Value)
+  pub last : List Value
+  pub after : List (List Value)
+  pub front : List ℕ
+  pub row : List ℕ
+  pub rows_are : rows ≡ before ++ (last ∷ after)
+  pub each : AreRows columns front before
+  pub is_last : IsValuesRow most columns row last
+  pub is : bytes ≡ front ++ row
+  pub begun : length (flat_map (canonical_row columns) before) ≤ sent
+  pub ends : sent < length (flat_map (canonical_row columns) before) + length (canonical_row columns last)
+
+-- a field for each column, which spell values that fit, and the canonical fields of these
+pub record AreRespelledFields (most : ℕ) (columns : List Shape) (fields canonical : List ℕ) : Type 0 where
+  pub cells : List Cell
+  pub values : List Value
+  pub each : AreFields cells fields
+  pub many : length cells ≡ length columns
+  pub spelled : SpellsRow columns cells values
+  pub fit : FitsRow most columns values
+  pub is : canonical ≡ flat_map frame (canonical_cells columns values)
+
+-- Behind so many rows some more were copied, so that there are that many now: they stand one behind the other, their values
+-- are within the limits, and their canonical form was written.
+pub record IsRun (limits : Limits) (columns : List Shape) (before after : ℕ) (Written : List ℕ → Type 0) (bytes : List ℕ) : Type 0 where
+  pub rows : List (List Value)
+  pub each : AreRows columns bytes rows
+  pub fit : AllByRecursion (FitsRow limits.field_max columns) rows
+  pub counted : after ≡ before + length rows
+  pub few : after ≤ limits.rows_max
+  pub written : Written (flat_map (canonical_row columns) rows)
+
+-- The sink failed in the last of these rows, of which it has a front of the canonical form.
+pub record IsBrokenRun (limits : Limits) (columns : List Shape) (before : ℕ) (Written : List ℕ → Type 0) (bytes : List ℕ) : Type 0 where
+  pub rows : List (List Value)
+  pub last : List Value
+  pub front : List ℕ
+  pub row : List ℕ
+  pub each : AreRows columns front rows
+  pub fit : AllByRecursion (FitsRow limits.field_max columns) rows
+  pub is_last : IsValuesRow limits.field_max columns row last
+  pub is : bytes ≡ front ++ row
+  pub few : before + length rows < limits.rows_max
+  pub part : PartWritten (flat_map (canonical_row columns) rows) (canonical_row columns last) Written
+
+-- Of a call that takes a row or the end, behind so many rows: a row that was copied, or the end, at which nothing was written.
+abbrev pub IsTurn : Limits → List Shape → ℕ → (List ℕ → Type 0) → Bool → List ℕ → Type 0
+IsTurn limits columns before Written true bytes = IsRun limits columns before (before + 1) Written bytes
+IsTurn limits columns before Written false bytes = (bytes ≡ trailer) × Written []
+
+-- what a fault of that call says: its cause, at which nothing was written, or that the sink failed in the row
+abbrev pub turn_fault : Limits → List Shape → ℕ → (List ℕ → Type 0) → CopyFault → List ℕ → Type 0
+turn_fault limits columns before Written fault bytes = (row_cause limits columns before fault bytes × Written []) ⊎ ((fault ≡ WriteFault) × IsBrokenRun limits columns before Written bytes)
+
+abbrev pub length_of : Copied → ℕ
+length_of (Whole rows len) = len
+length_of (Broken len) = len
+
+-- how many rows there are, unless the sink failed
+abbrev pub rows_of : Copied → Option ℕ
+rows_of (Whole rows len) = Some rows
+rows_of (Broken len) = None
+
+-- what the copy of rows at the front of bytes did, which stands behind so many
+abbrev pub copied_says : Limits → List Shape → ℕ → (List ℕ → Type 0) → Type 0 → List ℕ → Copied → Type 0
+copied_says limits columns before Written failed bytes (Whole rows len) = (len ≤ length bytes) × IsRun limits columns before rows Written (take len bytes)
+copied_says limits columns before Written failed bytes (Broken len) = (len ≤ length bytes) × IsBrokenRun limits columns before Written (take len bytes) × failed

@@ -1,0 +1,255 @@
+ghost use Rattle.std.specs.Prelude.{◌≡◌, ◌<◌, ◌≤◌, ◌^◌, ◌+◌, ◌⊎◌, List, [], ℕ, length, take, Some, IfSome, IsNone, Ok, Err, IfErr};
+ghost use Rattle.pgw_wire.specs.Outside.{HasFailed, Took, Wrote};
+ghost use Rattle.pgw_tree.specs.Tree.{Shape, Value, shapes};
+ghost use Rattle.pgw_tree.specs.Runs.{AreRespelled, EndsInRow, IsRun, IsBrokenRun, copied_says, length_of, rows_of};
+
+use crate::fields::behind_row;
+use crate::plain::plain_rows;
+use crate::respell::respell_rows;
+use crate::{CopyFault, FirstType, Limits};
+use pgw_wire::{ByteBuffer, Sink, Source, Taker, send};
+use std::alloc::Global;
+
+/// What came of copying rows at the front of bytes.
+#[derive(Drop)]
+pub(crate) enum Copied {
+    /// There are so many rows now, and the last of them ends behind so many bytes.
+    Whole { rows: u64, len: usize },
+    /// The sink failed in the row that ends behind so many bytes.
+    Broken { len: usize },
+}
+
+impl Copied {
+    /// Behind how many bytes the last of the rows ends.
+    fn len(&self) -> usize
+        ensures { result ≡ length_of self.now }
+    {
+        match self {
+            Copied::Whole { len, .. } | Copied::Broken { len } => *len,
+        }
+    }
+
+    /// How many rows there are. None where the sink failed.
+    fn rows(&self) -> Option<u64>
+        ensures { result ≡ rows_of self.now }
+    {
+        match self {
+            Copied::Whole { rows, .. } => Some(*rows),
+            Copied::Broken { .. } => None,
+        }
+    }
+}
+
+/// Where among rows the one ends in whose canonical form the byte behind the first `sent` is.
+fn row_end_behind(canonical: &[u8], run: &[u8], sent: usize) -> usize
+    requires rows { (most : ℕ) × (columns : List Shape) × (many : ℕ) × AreRespelled most columns many canonical.now run.now }
+    requires inside { sent < length canonical.now }
+    ensures within { result ≤ length run.now }
+    ensures row { (most : ℕ) (columns : List Shape) (many : ℕ) (all : AreRespelled most columns many canonical.now run.now)
+        → EndsInRow most columns all.rows sent (take result run.now) }
+{
+    let mut rest = canonical;
+    let mut run_rest = run;
+    loop {
+        let behind = behind_row(rest).unwrap();
+        let run_behind = behind_row(run_rest).unwrap();
+        if sent < canonical.len() - behind.len() {
+            return run.len() - run_behind.len();
+        }
+        rest = behind;
+        run_rest = run_behind;
+    }
+}
+
+/// Copies so many rows by sending their canonical form in one piece. So many rows were copied before.
+fn send_rows<K: Sink>(
+    columns: &[FirstType],
+    limits: Limits,
+    before: u64,
+    many: u64,
+    canonical: &[u8],
+    run: &[u8],
+    sink: &mut K,
+) -> Copied
+    requires rows { AreRespelled limits.field_max (shapes columns.now) many canonical.now run.now }
+    requires allowed { before + many ≤ limits.rows_max }
+    ensures copied { copied_says limits (shapes columns.now) before
+        (Wrote (K.gained sink.old) (K.gained sink.new) (K.settled sink.old) (K.settled sink.new))
+        (HasFailed (K.fault_count sink.old) (K.fault_count sink.new)) run.now result }
+    ensures more { (rows len : ℕ) → result ≡ Copied.Whole rows len → rows ≡ before + many }
+    ensures faults { K.fault_count sink.old ≤ K.fault_count sink.new }
+    ensures origin { K.origin sink.new ≡ K.origin sink.old }
+{
+    let sent = send(sink, canonical);
+    if sent < canonical.len() {
+        Copied::Broken {
+            len: row_end_behind(canonical, run, sent),
+        }
+    } else {
+        Copied::Whole {
+            rows: before + many,
+            len: run.len(),
+        }
+    }
+}
+
+/// Copies the rows at the front that are canonical as they stand, or else some that have to be spelled otherwise, whose
+/// canonical form is made in the buffer. None, and the sink is left alone, where neither stand there, or where memory is
+/// refused. So many rows were copied before.
+fn copy_front<K: Sink>(
+    columns: &[FirstType],
+    limits: Limits,
+    before: u64,
+    bytes: &[u8],
+    buffer: &mut ByteBuffer,
+    sink: &mut K,
+) -> Option<Copied>
+    requires few { length columns.now < 2 ^ 15 }
+    requires allowed { before < limits.rows_max }
+    ensures copied { IfSome result (copied_says limits (shapes columns.now) before
+        (Wrote (K.gained sink.old) (K.gained sink.new) (K.settled sink.old) (K.settled sink.new))
+        (HasFailed (K.fault_count sink.old) (K.fault_count sink.new)) bytes.now) }
+    ensures more { (rows len : ℕ) → result ≡ Some (Copied.Whole rows len) → before < rows }
+    ensures none { IsNone result → sink.new ≡ sink.old }
+    ensures faults { K.fault_count sink.old ≤ K.fault_count sink.new }
+    ensures origin { K.origin sink.new ≡ K.origin sink.old }
+{
+    let most = limits.rows_max() - before;
+    let run = plain_rows(columns, limits.field_max(), most, bytes);
+    if run.rows > 0 {
+        return Some(send_rows(
+            columns, limits, before, run.rows, run.bytes, run.bytes, sink,
+        ));
+    }
+    let run = respell_rows(columns, limits.field_max(), most, bytes, buffer);
+    if run.rows > 0 {
+        Some(send_rows(
+            columns,
+            limits,
+            before,
+            run.rows,
+            buffer.as_bytes(),
+            run.bytes,
+            sink,
+        ))
+    } else {
+        None
+    }
+}
+
+/// Copies rows at the front, as long as each stands there whole, up to the limit on rows. So many rows were copied before.
+fn copy_rows<K: Sink>(
+    columns: &[FirstType],
+    limits: Limits,
+    before: u64,
+    bytes: &[u8],
+    buffer: &mut ByteBuffer,
+    sink: &mut K,
+) -> Copied
+    requires few { length columns.now < 2 ^ 15 }
+    requires allowed { before ≤ limits.rows_max }
+    ensures copied { copied_says limits (shapes columns.now) before
+        (Wrote (K.gained sink.old) (K.gained sink.new) (K.settled sink.old) (K.settled sink.new))
+        (HasFailed (K.fault_count sink.old) (K.fault_count sink.new)) bytes.now result }
+    ensures faults { K.fault_count sink.old ≤ K.fault_count sink.new }
+    ensures origin { K.origin sink.new ≡ K.origin sink.old }
+{
+    let mut rows = before;
+    let mut len = 0;
+    while rows < limits.rows_max() {
+        match copy_front(columns, limits, rows, &bytes[len..], buffer, sink) {
+            None => break,
+            Some(
+                Copied::Whole {
+                    rows: now,
+                    len: more,
+                },
+            ) => {
+                rows = now;
+                len += more;
+            }
+            Some(Copied::Broken { len: last }) => return Copied::Broken { len: len + last },
+        }
+    }
+    Copied::Whole { rows, len }
+}
+
+/// Copies the rows that stand whole in what a source shows. So many rows were copied before.
+#[derive(Drop)]
+struct RowTaker<'a> {
+    columns: &'a [FirstType],
+    limits: Limits,
+    before: u64,
+    buffer: ByteBuffer,
+    copied: Copied,
+    ghost few: { length columns.now < 2 ^ 15 },
+    ghost allowed: { before ≤ limits.rows_max },
+}
+
+impl<K: Sink> Taker<K> for RowTaker<'_> {
+    ghost takes = { λ taker sink ready n then_ sink_then.
+        (n ≡ length_of then_.copied)
+        × copied_says taker.limits (shapes taker.columns.now) taker.before
+        (Wrote (K.gained sink) (K.gained sink_then) (K.settled sink) (K.settled sink_then))
+        (HasFailed (K.fault_count sink) (K.fault_count sink_then)) ready then_.copied
+        × (K.fault_count sink ≤ K.fault_count sink_then)
+        × (K.origin sink_then ≡ K.origin sink) };
+
+    #[inline(always)]
+    fn look(&mut self, to: &mut K, ready: &[u8]) -> usize {
+        self.copied = copy_rows(
+            self.columns,
+            self.limits,
+            self.before,
+            ready,
+            &mut self.buffer,
+            to,
+        );
+        self.copied.len()
+    }
+}
+
+/// Copies the rows that stand whole in what the source shows, and answers how many rows there are then. So many were copied
+/// before.
+pub(crate) fn copy_shown<S: Source, K: Sink>(
+    alloc: Global,
+    columns: &[FirstType],
+    limits: Limits,
+    before: u64,
+    source: &mut S,
+    sink: &mut K,
+) -> Result<u64, CopyFault>
+    requires few { length columns.now < 2 ^ 15 }
+    requires allowed { before ≤ limits.rows_max }
+    ensures ok { (rows : ℕ) → result ≡ Ok rows → Took (S.left source.old) (S.left source.new)
+        (IsRun limits (shapes columns.now) before rows
+        (Wrote (K.gained sink.old) (K.gained sink.new) (K.settled sink.old) (K.settled sink.new))) }
+    ensures read_fault { result ≡ Err CopyFault.ReadFault
+        → Took (S.left source.old) (S.left source.new) (λ taken. taken ≡ [])
+        × Wrote (K.gained sink.old) (K.gained sink.new) (K.settled sink.old) (K.settled sink.new) []
+        × HasFailed (S.fault_count source.old) (S.fault_count source.new) }
+    ensures write_fault { result ≡ Err CopyFault.WriteFault
+        → Took (S.left source.old) (S.left source.new) (IsBrokenRun limits (shapes columns.now) before
+        (Wrote (K.gained sink.old) (K.gained sink.new) (K.settled sink.old) (K.settled sink.new)))
+        × HasFailed (K.fault_count sink.old) (K.fault_count sink.new) }
+    ensures faults { IfErr result (λ fault. (fault ≡ CopyFault.ReadFault) ⊎ (fault ≡ CopyFault.WriteFault)) }
+    ensures source_faults { S.fault_count source.old ≤ S.fault_count source.new }
+    ensures source_origin { S.origin source.new ≡ S.origin source.old }
+    ensures sink_faults { K.fault_count sink.old ≤ K.fault_count sink.new }
+    ensures sink_origin { K.origin sink.new ≡ K.origin sink.old }
+{
+    let mut taker = RowTaker {
+        columns,
+        limits,
+        before,
+        buffer: ByteBuffer::new(alloc),
+        copied: Copied::Whole {
+            rows: before,
+            len: 0,
+        },
+    };
+    match source.show(&mut taker, sink) {
+        Ok(_) => taker.copied.rows().ok_or(CopyFault::WriteFault),
+        Err(_) => Err(CopyFault::ReadFault),
+    }
+}
