@@ -9,6 +9,10 @@ mod edge_tests;
 mod report;
 mod run;
 #[cfg(test)]
+mod seam_cases;
+#[cfg(test)]
+mod seam_tests;
+#[cfg(test)]
 mod tests;
 mod words;
 #[cfg(test)]

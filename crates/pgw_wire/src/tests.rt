@@ -1,3 +1,5 @@
+ghost use Rattle.std.specs.Prelude.{⊤};
+
 use super::*;
 use std::alloc::Global;
 use std::io;
@@ -213,4 +215,99 @@ fn a_writer_is_a_sink(rt: HostRuntime) {
     assert_eq!(rt; sink.write(b""), Err(Failed));
     assert_eq!(rt; sink.flush(), Err(Failed));
     assert_eq!(rt; sink.faults(), 3);
+}
+
+/// Takes three bytes of those that are shown, or all where they are fewer, and keeps how many they were and what was taken.
+#[derive(Drop)]
+struct TakesThree {
+    shown: usize,
+}
+
+impl Taker<Vec<u8>> for TakesThree {
+    ghost takes = { λ _ _ _ _ _ _. ⊤ };
+
+    fn look(&mut self, to: &mut Vec<u8>, ready: &[u8]) -> usize {
+        self.shown = ready.len();
+        let len = ready.len().min(3);
+        if to.extend_from_slice(&ready[..len]).is_err() {
+            return 0;
+        }
+        len
+    }
+}
+
+// A source that has all its bytes at hand, and one that has four in its buffer.
+#[test]
+fn bytes_that_stand_ready_are_shown(rt: HostRuntime) {
+    let alloc: Global = rt.alloc();
+    let mut buf = [0; 8];
+    let mut taker = TakesThree { shown: 0 };
+    let mut to = Vec::new(alloc);
+    let mut source = QuietSource::new(b"abcde".to_vec(alloc).expect(&rt, "memory"));
+    for (shown, taken) in [(5, b"abc".as_slice()), (2, b"abcde"), (0, b"abcde")] {
+        assert_eq!(rt; source.show(&mut taker, &mut to), Ok(true));
+        assert_eq!(rt; taker.shown, shown);
+        assert_eq!(rt; to.as_slice(), taken);
+    }
+    assert_eq!(rt; source.read(&mut buf), Ok(0));
+
+    let mut to = Vec::new(alloc);
+    let reader = BufReader::with_capacity(alloc, 4, b"abcdef".as_slice()).expect(&rt, "memory");
+    let mut source = BufReadSource::new(reader);
+    for (shown, taken) in [(4, b"abc".as_slice()), (1, b"abcd")] {
+        assert_eq!(rt; source.show(&mut taker, &mut to), Ok(true));
+        assert_eq!(rt; taker.shown, shown);
+        assert_eq!(rt; to.as_slice(), taken);
+    }
+    assert_eq!(rt; source.read(&mut buf), Ok(2));
+    assert!(rt; buf.starts_with(b"ef"));
+    assert_eq!(rt; source.show(&mut taker, &mut to), Ok(true));
+    assert_eq!(rt; taker.shown, 0);
+    assert_eq!(rt; source.faults(), 0);
+}
+
+#[test]
+fn no_bytes_are_shown(rt: HostRuntime) {
+    let alloc: Global = rt.alloc();
+    let mut buf = [0; 3];
+    let mut taker = TakesThree { shown: 9 };
+    let mut to = Vec::new(alloc);
+    let bytes = b"ab".to_vec(alloc).expect(&rt, "memory");
+    let mut source = MemorySource::new(bytes, Vec::new(alloc), Vec::new(alloc));
+    assert_eq!(rt; source.show(&mut taker, &mut to), Ok(false));
+    assert_eq!(rt; source.read(&mut buf), Ok(2));
+    assert_eq!(rt; source.faults(), 0);
+
+    let reader = BufReader::with_capacity(alloc, 4, Odd { calls: 1 }).expect(&rt, "memory");
+    let mut source = BufReadSource::new(reader);
+    assert_eq!(rt; source.show(&mut taker, &mut to), Err(Failed));
+    assert_eq!(rt; source.faults(), 1);
+    assert_eq!(rt; taker.shown, 9);
+    assert_eq!(rt; to.as_slice(), b"".as_slice());
+}
+
+// A table of the cuts, the call that fails, how many bytes went, and how many calls failed.
+#[test]
+fn a_piece_is_sent_until_the_sink_fails(rt: HostRuntime) {
+    let alloc: Global = rt.alloc();
+    let table: [(&[usize], u64, usize, u64); 5] = [
+        (&[], 9, 6, 0),
+        (&[2, 1], 9, 6, 0),
+        (&[2, 1], 3, 6, 0),
+        (&[2, 1], 2, 3, 1),
+        (&[], 0, 0, 1),
+    ];
+    for (cuts, fail, sent, faults) in table {
+        let cuts = cuts.to_vec(alloc).expect(&rt, "memory");
+        let fails = [fail].to_vec(alloc).expect(&rt, "memory");
+        let mut sink = MemorySink::new(alloc, cuts, fails);
+        assert_eq!(rt; send(&mut sink, b"abcdef"), sent);
+        assert_eq!(rt; sink.gained().len(), sent);
+        assert!(rt; b"abcdef".starts_with(sink.gained()));
+        assert_eq!(rt; sink.faults(), faults);
+    }
+    let fails = [0].to_vec(alloc).expect(&rt, "memory");
+    let mut sink = MemorySink::new(alloc, Vec::new(alloc), fails);
+    assert_eq!(rt; send(&mut sink, b""), 0);
+    assert_eq!(rt; sink.faults(), 0);
 }

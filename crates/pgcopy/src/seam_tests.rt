@@ -1,0 +1,455 @@
+//! A copy has two ways: rows that stand whole in what a source shows, and rows that are read piece by piece. These tests
+//! cut and break the calls of both sides at each place, so that each seam between the ways is met.
+
+use crate::report::Status;
+use crate::run::run;
+use crate::seam_cases::{COPIED, Case, HEADER, NULL, NULL_TWO, REFUSED};
+use pgw_wire::{BufReadSource, MemorySink, MemorySource, QuietSource, Sink, Source};
+use std::alloc::{AllocError, Global};
+use std::io;
+use std::io::{BufReader, Error, ErrorKind, Read};
+use std::process::Abort;
+
+/// The number of a call that does not come.
+const NEVER: u64 = u64::MAX;
+
+/// More calls than any of the runs makes.
+const CALLS: usize = 400;
+
+/// A reader that gives at most so many bytes a read, and whose read with the number `fail`, counted from 0, fails.
+#[derive(Drop)]
+struct Pieces<'a> {
+    rest: &'a [u8],
+    most: usize,
+    fail: u64,
+    calls: u64,
+}
+
+impl Read for Pieces<'_> {
+    fn read(&mut self, buf: &mut [u8]) -> io::Result<usize> {
+        let call = self.calls;
+        self.calls = call.saturating_add(1);
+        if call == self.fail {
+            return Err(Error::from(ErrorKind::Other));
+        }
+        let len = buf.len().min(self.most);
+        self.rest.read(&mut buf[..len])
+    }
+}
+
+/// How many bytes the calls move at most, and the numbers of the calls that fail, counted from 0.
+#[derive(Clone, Copy, Debug)]
+struct Calls {
+    read_most: usize,
+    read_fail: u64,
+    write_most: usize,
+    write_fail: u64,
+}
+
+/// A case, and what it is run on.
+#[derive(Drop)]
+struct Prepared {
+    case: Case,
+    words: Vec<String>,
+    input: Vec<u8>,
+    output: Vec<u8>,
+}
+
+/// Makes what a case is run on.
+fn prepare(alloc: Global, case: Case) -> Result<Prepared, AllocError> {
+    let mut words = Vec::new(alloc);
+    for word in case.words {
+        words.push(String::from_str(alloc, word)?)?;
+    }
+    Ok(Prepared {
+        case,
+        words,
+        input: case.input(alloc)?,
+        output: case.output(alloc)?,
+    })
+}
+
+/// The cuts by which each call moves at most so many bytes.
+fn cuts_of(alloc: Global, most: usize) -> Result<Vec<usize>, AllocError> {
+    match most {
+        1 => [1; CALLS].to_vec(alloc),
+        7 => [7; CALLS].to_vec(alloc),
+        _ => Ok(Vec::new(alloc)),
+    }
+}
+
+/// How many bytes a source still has. A read that fails is made again.
+fn left_of<S: Source>(source: &mut S) -> usize {
+    let mut left = 0usize;
+    let mut buf = [0; 512];
+    for _ in 0..CALLS {
+        match source.read(&mut buf) {
+            Ok(0) => return left,
+            Ok(n) => left = left.saturating_add(n),
+            Err(_) => {}
+        }
+    }
+    left
+}
+
+/// Runs on the source, looks at all that came of it, and answers whether a call failed.
+fn run_on<R: Abort, S: Source>(
+    rt: &R,
+    alloc: Global,
+    prepared: &Prepared,
+    source: &mut S,
+    calls: Calls,
+) -> bool {
+    let cuts = cuts_of(alloc, calls.write_most).expect(rt, "memory");
+    let fails = [calls.write_fail].to_vec(alloc).expect(rt, "memory");
+    let mut sink = MemorySink::new(alloc, cuts, fails);
+    let mut notes = MemorySink::new(alloc, Vec::new(alloc), Vec::new(alloc));
+    let status = run(alloc, &prepared.words, source, &mut sink, &mut notes);
+    let case = prepared.case;
+    let read_failed = source.faults() > 0;
+    let write_failed = sink.faults() > 0;
+    let written = sink.gained().len();
+    let taken = prepared.input.len().saturating_sub(left_of(source));
+    let whole = case.taken_at(usize::MAX);
+    assert!(rt; prepared.output.starts_with(sink.gained()), "{calls:?}");
+    if read_failed {
+        assert_eq!(rt; status, Status::Outside, "{calls:?}");
+        assert_eq!(rt; notes.gained(), b"read fault\n".as_slice(), "{calls:?}");
+        assert_eq!(rt; written, case.written_at(taken), "{calls:?}");
+        assert!(rt;
+            taken < whole || case.line == b"truncated\n".as_slice(),
+            "{calls:?}"
+        );
+    } else if write_failed {
+        assert_eq!(rt; status, Status::Outside, "{calls:?}");
+        assert_eq!(rt; notes.gained(), b"write fault\n".as_slice(), "{calls:?}");
+        assert_eq!(rt; taken, case.taken_at(written), "{calls:?}");
+    } else {
+        assert_eq!(rt; status, case.status, "{calls:?}");
+        assert_eq!(rt; notes.gained(), case.line, "{calls:?}");
+        assert_eq!(rt; written, prepared.output.len(), "{calls:?}");
+        assert_eq!(rt; taken, whole, "{calls:?}");
+    }
+    read_failed || write_failed
+}
+
+/// Runs over a source that shows no bytes.
+fn over_memory(rt: &impl Abort, alloc: Global, prepared: &Prepared, calls: Calls) -> bool {
+    let bytes = prepared.input.to_vec(alloc).expect(rt, "memory");
+    let cuts = cuts_of(alloc, calls.read_most).expect(rt, "memory");
+    let fails = [calls.read_fail].to_vec(alloc).expect(rt, "memory");
+    let mut source = MemorySource::new(bytes, cuts, fails);
+    run_on(rt, alloc, prepared, &mut source, calls)
+}
+
+/// Runs over a source that shows all its bytes.
+fn over_quiet(rt: &impl Abort, alloc: Global, prepared: &Prepared, calls: Calls) -> bool {
+    let bytes = prepared.input.to_vec(alloc).expect(rt, "memory");
+    let mut source = QuietSource::new(bytes);
+    run_on(rt, alloc, prepared, &mut source, calls)
+}
+
+/// Runs over a source that shows what stands in its buffer of so many bytes.
+fn over_buffer(
+    rt: &impl Abort,
+    alloc: Global,
+    prepared: &Prepared,
+    capacity: usize,
+    calls: Calls,
+) -> bool {
+    let pieces = Pieces {
+        rest: &prepared.input,
+        most: calls.read_most,
+        fail: calls.read_fail,
+        calls: 0,
+    };
+    let reader = BufReader::with_capacity(alloc, capacity, pieces).expect(rt, "memory");
+    let mut source = BufReadSource::new(reader);
+    run_on(rt, alloc, prepared, &mut source, calls)
+}
+
+/// The calls of which the read with this number fails.
+fn read_fails(read_most: usize, read_fail: u64, write_most: usize) -> Calls {
+    Calls {
+        read_most,
+        read_fail,
+        write_most,
+        write_fail: NEVER,
+    }
+}
+
+/// The calls of which the write or the flush with this number fails.
+fn write_fails(read_most: usize, write_most: usize, write_fail: u64) -> Calls {
+    Calls {
+        read_most,
+        read_fail: NEVER,
+        write_most,
+        write_fail,
+    }
+}
+
+/// Lets each read fail in turn, over a source that shows no bytes.
+fn break_reads_over_memory(rt: &impl Abort, alloc: Global, case: Case, most: usize) {
+    let prepared = prepare(alloc, case).expect(rt, "memory");
+    let mut failed = true;
+    for call in 0..CALLS {
+        if failed {
+            failed = over_memory(rt, alloc, &prepared, read_fails(most, call as u64, 4096));
+        }
+    }
+    assert!(rt; !failed);
+}
+
+/// Lets each read fail in turn, over a source that shows its buffer.
+fn break_reads_over_buffer(
+    rt: &impl Abort,
+    alloc: Global,
+    case: Case,
+    capacity: usize,
+    most: usize,
+) {
+    let prepared = prepare(alloc, case).expect(rt, "memory");
+    let mut failed = true;
+    for call in 0..CALLS {
+        if failed {
+            let calls = read_fails(most, call as u64, 4096);
+            failed = over_buffer(rt, alloc, &prepared, capacity, calls);
+        }
+    }
+    assert!(rt; !failed);
+}
+
+/// Lets each write and flush fail in turn, over a source that shows no bytes.
+fn break_writes_over_memory(rt: &impl Abort, alloc: Global, case: Case, most: usize) {
+    let prepared = prepare(alloc, case).expect(rt, "memory");
+    let mut failed = true;
+    for call in 0..CALLS {
+        if failed {
+            failed = over_memory(rt, alloc, &prepared, write_fails(4096, most, call as u64));
+        }
+    }
+    assert!(rt; !failed);
+}
+
+/// Lets each write and flush fail in turn, over a source that shows all its bytes.
+fn break_writes_over_quiet(rt: &impl Abort, alloc: Global, case: Case, most: usize) {
+    let prepared = prepare(alloc, case).expect(rt, "memory");
+    let mut failed = true;
+    for call in 0..CALLS {
+        if failed {
+            failed = over_quiet(rt, alloc, &prepared, write_fails(4096, most, call as u64));
+        }
+    }
+    assert!(rt; !failed);
+}
+
+/// Lets each write and flush fail in turn, over a source that shows its buffer.
+fn break_writes_over_buffer(
+    rt: &impl Abort,
+    alloc: Global,
+    case: Case,
+    capacity: usize,
+    most: usize,
+) {
+    let prepared = prepare(alloc, case).expect(rt, "memory");
+    let mut failed = true;
+    for call in 0..CALLS {
+        if failed {
+            let calls = write_fails(4096, most, call as u64);
+            failed = over_buffer(rt, alloc, &prepared, capacity, calls);
+        }
+    }
+    assert!(rt; !failed);
+}
+
+// The sink has the header and the rows that were taken whole.
+#[test]
+fn failed_read_is_told_where_no_bytes_are_shown(rt: HostRuntime) {
+    for most in [1, 7, 4096] {
+        for case in COPIED {
+            break_reads_over_memory(&rt, rt.alloc(), case, most);
+        }
+        for case in REFUSED {
+            break_reads_over_memory(&rt, rt.alloc(), case, most);
+        }
+    }
+}
+
+#[test]
+fn failed_read_is_told_behind_any_buffer(rt: HostRuntime) {
+    for capacity in 0..41 {
+        for case in COPIED {
+            break_reads_over_buffer(&rt, rt.alloc(), case, capacity, 4096);
+        }
+        for case in REFUSED {
+            break_reads_over_buffer(&rt, rt.alloc(), case, capacity, 4096);
+        }
+    }
+}
+
+// Each read fills the buffer in part.
+#[test]
+fn failed_read_is_told_behind_a_buffer_that_is_not_full(rt: HostRuntime) {
+    for (capacity, most) in [
+        (2, 1),
+        (40, 1),
+        (8, 7),
+        (20, 7),
+        (40, 7),
+        (40, 33),
+        (4096, 50),
+    ] {
+        for case in COPIED {
+            break_reads_over_buffer(&rt, rt.alloc(), case, capacity, most);
+        }
+        for case in REFUSED {
+            break_reads_over_buffer(&rt, rt.alloc(), case, capacity, most);
+        }
+    }
+}
+
+// What is left of the source begins behind the row in which the sink failed.
+#[test]
+fn failed_write_is_told(rt: HostRuntime) {
+    for most in [1, 7, 4096] {
+        for case in COPIED {
+            break_writes_over_memory(&rt, rt.alloc(), case, most);
+            break_writes_over_quiet(&rt, rt.alloc(), case, most);
+        }
+        for case in REFUSED {
+            break_writes_over_memory(&rt, rt.alloc(), case, most);
+            break_writes_over_quiet(&rt, rt.alloc(), case, most);
+        }
+    }
+}
+
+#[test]
+fn failed_write_is_told_behind_any_buffer(rt: HostRuntime) {
+    for capacity in 0..41 {
+        for case in COPIED {
+            break_writes_over_buffer(&rt, rt.alloc(), case, capacity, 7);
+        }
+        for case in REFUSED {
+            break_writes_over_buffer(&rt, rt.alloc(), case, capacity, 4096);
+        }
+    }
+}
+
+#[test]
+fn write_that_fails_at_any_byte_is_told_behind_a_buffer(rt: HostRuntime) {
+    for capacity in [1, 17, 31, 40] {
+        for case in COPIED {
+            break_writes_over_buffer(&rt, rt.alloc(), case, capacity, 1);
+        }
+    }
+}
+
+// The first read gives exactly the bytes that suffice, and the second fails.
+#[test]
+fn no_read_is_made_behind_the_bytes_that_suffice(rt: HostRuntime) {
+    let alloc = rt.alloc();
+    for case in COPIED {
+        let prepared = prepare(alloc, case).expect(&rt, "memory");
+        let calls = read_fails(case.taken_at(usize::MAX), 1, 4096);
+        assert!(rt; !over_buffer(&rt, alloc, &prepared, 4096, calls));
+    }
+    for case in REFUSED {
+        let prepared = prepare(alloc, case).expect(&rt, "memory");
+        let calls = read_fails(case.taken_at(usize::MAX), 1, 4096);
+        let is_cut = case.line == b"truncated\n".as_slice();
+        assert_eq!(rt; over_buffer(&rt, alloc, &prepared, 4096, calls), is_cut);
+    }
+}
+
+/// How many bytes are taken of a source that shows all, where the sink fails behind so many bytes.
+fn taken_behind(rt: &impl Abort, alloc: Global, case: Case, written: usize) -> usize {
+    let prepared = prepare(alloc, case).expect(rt, "memory");
+    let bytes = prepared.input.to_vec(alloc).expect(rt, "memory");
+    let mut source = QuietSource::new(bytes);
+    let cuts = cuts_of(alloc, 1).expect(rt, "memory");
+    let fails = [written as u64].to_vec(alloc).expect(rt, "memory");
+    let mut sink = MemorySink::new(alloc, cuts, fails);
+    let mut notes = MemorySink::new(alloc, Vec::new(alloc), Vec::new(alloc));
+    let status = run(alloc, &prepared.words, &mut source, &mut sink, &mut notes);
+    assert_eq!(rt; status, Status::Outside);
+    assert_eq!(rt; sink.gained().len(), written);
+    prepared.input.len().saturating_sub(left_of(&mut source))
+}
+
+// The ends of four rows that are canonical as they stand, and of four that are spelled otherwise.
+#[test]
+fn rows_through_the_one_in_which_the_sink_failed_are_taken(rt: HostRuntime) {
+    let alloc = rt.alloc();
+    for (written, taken) in [
+        (0, 19),
+        (18, 19),
+        (19, 35),
+        (34, 35),
+        (35, 49),
+        (48, 49),
+        (49, 63),
+        (62, 63),
+        (63, 79),
+        (78, 79),
+        (79, 81),
+        (81, 81),
+    ] {
+        assert_eq!(rt; taken_behind(&rt, alloc, COPIED[1], written), taken);
+    }
+    for (written, taken) in [
+        (18, 19),
+        (19, 42),
+        (34, 42),
+        (35, 61),
+        (48, 61),
+        (49, 85),
+        (64, 85),
+        (65, 108),
+        (80, 108),
+        (81, 110),
+        (82, 110),
+    ] {
+        assert_eq!(rt; taken_behind(&rt, alloc, COPIED[3], written), taken);
+    }
+}
+
+/// A header and so many times the row, and what stands behind them.
+fn repeated(alloc: Global, row: &[u8], many: usize, tail: &[u8]) -> Result<Vec<u8>, AllocError> {
+    let mut bytes = Vec::from_slice(alloc, HEADER)?;
+    for _ in 0..many {
+        bytes.extend_from_slice(row)?;
+    }
+    bytes.extend_from_slice(tail)?;
+    Ok(bytes)
+}
+
+// The rows have 42000 bytes, and the canonical ones too: more than are spelled before some are written.
+#[test]
+fn many_rows_that_are_spelled_otherwise_are_copied(rt: HostRuntime) {
+    let alloc = rt.alloc();
+    let prepared = prepare(alloc, COPIED[2]).expect(&rt, "memory");
+    let output = repeated(alloc, NULL, 3000, b"\xff\xff").expect(&rt, "memory");
+    for (fail, status, line) in [
+        (NEVER, Status::Copied, b"rows 3000\n".as_slice()),
+        (2, Status::Outside, b"write fault\n".as_slice()),
+    ] {
+        let input = repeated(alloc, NULL_TWO, 3000, b"\xff\xff").expect(&rt, "memory");
+        let mut source = QuietSource::new(input);
+        let fails = [fail].to_vec(alloc).expect(&rt, "memory");
+        let mut sink = MemorySink::new(alloc, Vec::new(alloc), fails);
+        let mut notes = MemorySink::new(alloc, Vec::new(alloc), Vec::new(alloc));
+        let ended = run(alloc, &prepared.words, &mut source, &mut sink, &mut notes);
+        assert_eq!(rt; ended, status);
+        assert_eq!(rt; notes.gained(), line);
+        assert!(rt; output.starts_with(sink.gained()));
+        let written = sink.gained().len();
+        let left = left_of(&mut source);
+        if status == Status::Copied {
+            assert_eq!(rt; (written, left), (42021, 0));
+        } else {
+            // the sink failed in front of a row, which was taken
+            assert_eq!(rt; written % 14, 19 % 14);
+            assert_eq!(rt; written.saturating_add(left), 42021 - 14);
+        }
+    }
+}
