@@ -5,7 +5,7 @@ program = crates/pgcopy/out/pgcopy
 bin = $(DESTDIR)$(PREFIX)/bin
 man1 = $(DESTDIR)$(PREFIX)/share/man/man1
 
-.PHONY: build test bench program-test postgres-test install uninstall
+.PHONY: build test bench program-test postgres-test baseline-test install uninstall
 
 build: $(program)
 
@@ -24,6 +24,9 @@ program-test:
 
 postgres-test:
 	tests/postgres/run
+
+baseline-test:
+	tests/baseline/run
 
 install: $(program)
 	install -D -m 755 $(program) "$(bin)/pgcopy"

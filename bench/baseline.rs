@@ -1,24 +1,36 @@
-//! The plain Rust program that `bench/run` measures `pgcopy` against: the same copy, written with
-//! the standard library alone and without unsafe code. It takes the command `copy` and column types,
-//! but no options. Its output, its line and its status are those that `README.md` tells. Only a
-//! standard stream that is closed is another matter: Rust's runtime opens an empty one instead.
+//! The plain Rust program that `bench/run` measures `pgcopy` against: the same copy, written for
+//! speed with the standard library alone and without unsafe code. Its words, its output, its line
+//! and its status are those that `README.md` tells, but for three things. It knows no help and no
+//! version, and adds no hint to a line. Where a write fails, more or fewer of the last rows may have
+//! been written before. And where a standard stream is closed, Rust's runtime opens an empty one
+//! instead.
+//!
+//! There is one buffer of input, which is gone through once. A row that is canonical as it stands
+//! is not written anew: such rows are handed on together, as one run of the buffer. A null is
+//! respelled at its place, and fields behind the last column alone interrupt a run.
 
 use std::collections::TryReserveError;
 use std::env;
 use std::ffi::OsString;
 use std::fmt::{self, Display, Formatter};
 use std::fs::File;
-use std::io::{self, BufRead, BufReader, BufWriter, ErrorKind, Read, Write};
-use std::ops::Range;
+use std::io::{self, BufWriter, ErrorKind, Read, Write};
 use std::os::fd::AsFd;
 use std::process::ExitCode;
 
-/// How many bytes of input, and of output, are kept between two calls of the system.
-const KEPT: usize = 65536;
+/// How many bytes of input are kept, where no row is longer.
+const STEP: usize = 256 * 1024;
+/// How many bytes of short runs are kept in front of the output. A longer run is written from where
+/// it stands.
+const KEPT: usize = 64 * 1024;
 /// The 11 bytes of the magic, then flags and the extension's length, which are 0.
 const HEADER: [u8; 19] = *b"PGCOPY\n\xff\r\n\0\0\0\0\0\0\0\0\0";
-const TRAILER: [u8; 2] = (-1i16).to_be_bytes();
+/// The length of a null.
 const NULL: [u8; 4] = (-1i32).to_be_bytes();
+/// The longest field that the format can state.
+const FIELD_MAX: u64 = 2147483647;
+/// How many columns the count of a row can state.
+const COLUMNS_MAX: usize = 32767;
 
 enum Fault {
     NotText,
@@ -28,10 +40,11 @@ enum Fault {
     BadFlags(u32),
     Truncated,
     BadFieldCount(i16),
+    RowLimit,
     /// The row.
     TooFewFields(u64),
     /// The row, the column, and what is wrong with the field.
-    BadValue(u64, usize, &'static str),
+    BadField(u64, usize, &'static str),
     Read,
     Write,
     OutOfMemory,
@@ -59,8 +72,9 @@ impl Display for Fault {
             Fault::BadFlags(flags) => write!(f, "bad flags {flags:08X}"),
             Fault::Truncated => write!(f, "truncated"),
             Fault::BadFieldCount(count) => write!(f, "bad field count {count}"),
+            Fault::RowLimit => write!(f, "row limit"),
             Fault::TooFewFields(row) => write!(f, "row {row}: too few fields"),
-            Fault::BadValue(row, column, what) => write!(f, "row {row} column {column}: {what}"),
+            Fault::BadField(row, column, what) => write!(f, "row {row} column {column}: {what}"),
             Fault::Read => write!(f, "read fault"),
             Fault::Write => write!(f, "write fault"),
             Fault::OutOfMemory => write!(f, "out of memory"),
@@ -75,194 +89,435 @@ impl From<TryReserveError> for Fault {
 }
 
 #[derive(Clone, Copy)]
-enum Column {
+enum Type {
     Int4,
-    Int4Null,
     Text,
-    TextNull,
+}
+
+#[derive(Clone, Copy)]
+struct Column {
+    of: Type,
+    nullable: bool,
 }
 
 impl Column {
     fn named(word: &str) -> Option<Column> {
-        match word {
-            "int4" => Some(Column::Int4),
-            "int4?" => Some(Column::Int4Null),
-            "text" => Some(Column::Text),
-            "text?" => Some(Column::TextNull),
-            _ => None,
-        }
+        let bare = word.strip_suffix('?');
+        let of = match bare.unwrap_or(word) {
+            "int4" => Type::Int4,
+            "text" => Type::Text,
+            _ => return None,
+        };
+        Some(Column {
+            of,
+            nullable: bare.is_some(),
+        })
     }
 
-    fn check(self, field: Option<&[u8]>) -> Result<(), &'static str> {
-        use Column::*;
-        match (self, field) {
-            (Int4 | Text, None) => Err("null"),
-            (Int4 | Int4Null, Some(bytes)) if bytes.len() != 4 => Err("size"),
-            (Text | TextNull, Some(bytes)) if std::str::from_utf8(bytes).is_err() => Err("utf8"),
+    /// Whether the bytes of a field, or None for a null, spell a value of at most `field_max`
+    /// bytes.
+    #[inline(always)]
+    fn check(self, field: Option<&[u8]>, field_max: usize) -> Result<(), &'static str> {
+        let Some(bytes) = field else {
+            return if self.nullable { Ok(()) } else { Err("null") };
+        };
+        match self.of {
+            Type::Int4 if bytes.len() != 4 => Err("size"),
+            Type::Text if !is_text(bytes) => Err("utf8"),
+            _ if bytes.len() > field_max => Err("too long"),
             _ => Ok(()),
         }
     }
 }
 
-/// Takes the next `N` bytes of the input.
-fn take<const N: usize>(input: &mut impl BufRead) -> Result<[u8; N]> {
-    let mut bytes = [0; N];
-    let read = input.read_exact(&mut bytes);
-    read.map_err(|error| match error.kind() {
-        ErrorKind::UnexpectedEof => Fault::Truncated,
-        _ => Fault::Read,
-    })?;
-    Ok(bytes)
+/// Whether the bytes are UTF-8. Up to 32 of them are looked at in few words, which may overlap, and
+/// need no more where all are ASCII.
+#[inline(always)]
+fn is_text(bytes: &[u8]) -> bool {
+    let high = match bytes.len() {
+        0 => 0,
+        1..=3 => u64::from(bytes[0] | bytes[bytes.len() / 2] | bytes[bytes.len() - 1]),
+        4..=7 => ends(bytes, |half: [u8; 4]| u32::from_ne_bytes(half).into()),
+        8..=16 => ends(bytes, u64::from_ne_bytes),
+        17..=32 => ends(bytes, |words: [u8; 16]| {
+            let words = u128::from_ne_bytes(words);
+            (words | words >> 64) as u64
+        }),
+        _ => u64::MAX,
+    };
+    high & 0x8080_8080_8080_8080 == 0 || std::str::from_utf8(bytes).is_ok()
 }
 
-fn read_header(input: &mut impl BufRead) -> Result<()> {
-    let magic: [u8; 11] = take(input)?;
-    let flags = u32::from_be_bytes(take(input)?);
-    let extension = i32::from_be_bytes(take(input)?);
-    if !HEADER.starts_with(&magic) {
-        return Err(Fault::BadHeader);
-    }
-    if flags > 0xffff {
-        return Err(Fault::BadFlags(flags));
-    }
-    let extension = u64::try_from(extension).map_err(|_| Fault::BadHeader)?;
-    match io::copy(&mut input.take(extension), &mut io::sink()) {
-        Ok(passed) if passed == extension => Ok(()),
-        Ok(_) => Err(Fault::Truncated),
-        Err(_) => Err(Fault::Read),
-    }
-}
-
-/// Takes the count of a row, or None at the count -1.
-fn read_count(input: &mut impl BufRead) -> Result<Option<u16>> {
-    match i16::from_be_bytes(take(input)?) {
-        -1 => Ok(None),
-        count if count < 0 => Err(Fault::BadFieldCount(count)),
-        count => Ok(Some(count.unsigned_abs())),
+/// The bits of the first and of the last `N` bytes.
+#[inline(always)]
+fn ends<const N: usize>(bytes: &[u8], word: impl Fn([u8; N]) -> u64) -> u64 {
+    match (bytes.first_chunk(), bytes.last_chunk()) {
+        (Some(first), Some(last)) => word(*first) | word(*last),
+        _ => u64::MAX,
     }
 }
 
-/// A row as it was read: the bytes of its fields, and where each field lies among them. A null
-/// lies nowhere.
-#[derive(Default)]
-struct Row {
-    bytes: Vec<u8>,
-    places: Vec<Option<Range<usize>>>,
+/// What the words ask for.
+struct Plan {
+    rows_max: u64,
+    field_max: usize,
+    columns: Vec<Column>,
 }
 
-impl Row {
-    /// Takes a row's fields in place of the row before.
-    fn read(&mut self, count: u16, input: &mut impl BufRead) -> Result<()> {
-        self.bytes.clear();
-        self.places.clear();
-        for _ in 0..count {
-            let place = match usize::try_from(i32::from_be_bytes(take(input)?)) {
-                Ok(length) => Some(self.read_field(length, input)?),
-                Err(_) => None,
-            };
-            self.places.try_reserve(1)?;
-            self.places.push(place);
-        }
-        Ok(())
-    }
-
-    /// Appends a field's bytes as they come, so that a stated length alone takes no memory.
-    fn read_field(&mut self, length: usize, input: &mut impl BufRead) -> Result<Range<usize>> {
-        let start = self.bytes.len();
-        let end = start + length;
-        while self.bytes.len() < end {
-            let kept = match input.fill_buf() {
-                Ok([]) => return Err(Fault::Truncated),
-                Ok(kept) => kept,
-                Err(error) if error.kind() == ErrorKind::Interrupted => continue,
-                Err(_) => return Err(Fault::Read),
-            };
-            let taken = kept.len().min(end - self.bytes.len());
-            self.bytes.try_reserve(taken)?;
-            self.bytes.extend_from_slice(&kept[..taken]);
-            input.consume(taken);
-        }
-        Ok(start..end)
-    }
-
-    fn fields(&self) -> impl Iterator<Item = Option<&[u8]>> {
-        let bytes = |place: &Option<Range<usize>>| place.clone().map(|place| &self.bytes[place]);
-        self.places.iter().map(bytes)
-    }
-
-    /// Whether the first fields are values of the columns. The row's number is for the fault.
-    fn check(&self, columns: &[Column], row: u64) -> Result<()> {
-        if self.places.len() < columns.len() {
-            return Err(Fault::TooFewFields(row));
-        }
-        for (place, (column, field)) in columns.iter().zip(self.fields()).enumerate() {
-            let checked = column.check(field);
-            checked.map_err(|what| Fault::BadValue(row, place, what))?;
-        }
-        Ok(())
-    }
-
-    /// Writes the canonical row of the first fields, as many as there are columns.
-    fn write(&self, columns: usize, output: &mut impl Write) -> io::Result<()> {
-        output.write_all(&(columns as u16).to_be_bytes())?;
-        for field in self.fields().take(columns) {
-            if let Some(bytes) = field {
-                output.write_all(&(bytes.len() as u32).to_be_bytes())?;
-                output.write_all(bytes)?;
-            } else {
-                output.write_all(&NULL)?;
-            }
-        }
-        Ok(())
+/// The number behind an option's `=`. `before` is the one of the same option that stands before it.
+fn read_number(digits: &str, most: u64, before: Option<u64>) -> Result<Option<u64>, &'static str> {
+    match digits.parse() {
+        Ok(number) if number <= most && !digits.starts_with('+') => match before {
+            None => Ok(Some(number)),
+            Some(_) => Err("repeated option"),
+        },
+        _ => Err("bad number"),
     }
 }
 
-/// Copies a stream, and answers how many rows it had.
-fn copy(columns: &[Column], input: &mut impl BufRead, output: &mut impl Write) -> Result<u64> {
-    let write_fault = |_| Fault::Write;
-    read_header(input)?;
-    output.write_all(&HEADER).map_err(write_fault)?;
-    let mut row = Row::default();
-    let mut rows = 0;
-    while let Some(count) = read_count(input)? {
-        row.read(count, input)?;
-        row.check(columns, rows)?;
-        row.write(columns.len(), output).map_err(write_fault)?;
-        rows += 1;
-    }
-    output.write_all(&TRAILER).map_err(write_fault)?;
-    output.flush().map_err(write_fault)?;
-    Ok(rows)
-}
-
-fn read_words(words: &[String]) -> Result<Vec<Column>> {
+fn read_words(words: &[String]) -> Result<Plan> {
     match words.first().map(String::as_str) {
         None => return Err(Fault::Word(0, "missing command")),
         Some("copy") => {}
         Some(_) => return Err(Fault::Word(0, "unknown command")),
     }
+    let (mut rows, mut field) = (None, None);
     let mut columns = Vec::new();
     for (place, word) in words.iter().enumerate().skip(1) {
-        columns.push(Column::named(word).ok_or(Fault::Word(place, "not supported yet"))?);
+        let fault = |what| Fault::Word(place, what);
+        let option = if columns.is_empty() {
+            word.split_once('=')
+        } else {
+            None
+        };
+        match option {
+            Some(("rows", digits)) => rows = read_number(digits, u64::MAX, rows).map_err(fault)?,
+            Some(("field", digits)) => {
+                field = read_number(digits, FIELD_MAX, field).map_err(fault)?
+            }
+            _ => {
+                columns.try_reserve(1)?;
+                columns.push(Column::named(word).ok_or(fault("not supported yet"))?);
+            }
+        }
     }
     match columns.len() {
         0 => Err(Fault::Word(words.len(), "missing type")),
-        1..=32767 => Ok(columns),
+        1..=COLUMNS_MAX => Ok(Plan {
+            rows_max: rows.unwrap_or(u64::MAX),
+            field_max: field.unwrap_or(FIELD_MAX) as usize,
+            columns,
+        }),
         _ => Err(Fault::Word(words.len(), "schema fault 2")),
+    }
+}
+
+/// The `N` bytes at a place, where they are there.
+#[inline(always)]
+fn bytes_at<const N: usize>(bytes: &[u8], place: usize) -> Option<[u8; N]> {
+    bytes.get(place..)?.first_chunk().copied()
+}
+
+/// The bytes of the field at a place, or None for a null, and where it ends; where it is there
+/// whole.
+#[inline(always)]
+fn field_at(bytes: &[u8], place: usize) -> Option<(Option<&[u8]>, usize)> {
+    let start = place + 4;
+    match usize::try_from(i32::from_be_bytes(bytes_at(bytes, place)?)) {
+        Ok(length) => Some((Some(bytes.get(start..start + length)?), start + length)),
+        Err(_) => Some((None, start)),
+    }
+}
+
+/// Where as many fields end, of which the first is at a place; where they are there whole.
+#[inline]
+fn behind_fields(bytes: &[u8], place: usize, count: usize) -> Option<usize> {
+    (0..count).try_fold(place, |place, _| Some(field_at(bytes, place)?.1))
+}
+
+/// Why the fields of a row are not taken.
+enum Stop {
+    /// They are not there whole.
+    Cut,
+    /// The column, and what is wrong with its field.
+    Bad(usize, &'static str),
+}
+
+impl Plan {
+    /// Checks the field of each column, of which the first is at a place. Makes each null
+    /// canonical, and answers where the last field ends.
+    #[inline(always)]
+    fn check_fields(&self, bytes: &mut [u8], mut place: usize) -> Result<usize, Stop> {
+        for (column, of) in self.columns.iter().enumerate() {
+            let (field, behind) = field_at(bytes, place).ok_or(Stop::Cut)?;
+            of.check(field, self.field_max)
+                .map_err(|what| Stop::Bad(column, what))?;
+            if field.is_none() {
+                bytes[place..behind].copy_from_slice(&NULL);
+            }
+            place = behind;
+        }
+        Ok(place)
+    }
+}
+
+/// Whether the count and the lengths of a row are those of values of `int4`.
+#[inline(always)]
+fn is_right(row: &[u8], columns: usize) -> bool {
+    let mut fields = row[2..].chunks_exact(8);
+    row[..2] == (columns as u16).to_be_bytes() && fields.all(|field| field[..4] == [0, 0, 0, 4])
+}
+
+/// How many rows in front have the count 1 and the length of an `int4`.
+fn right_numbers(rows: &[u8], most: usize) -> usize {
+    let rows = rows.chunks_exact(10).take(most);
+    rows.take_while(|row| row[..6] == [0, 1, 0, 0, 0, 4]).count()
+}
+
+struct Copier {
+    plan: Plan,
+    /// Whether a row has a value of an `int4` in each column, which is within the limit.
+    numbers: bool,
+    input: File,
+    output: BufWriter<File>,
+    /// The input that was read, up to `end`.
+    buffer: Vec<u8>,
+    end: usize,
+    /// Where the row begins that is read now, and where the run in front of it begins, which is
+    /// canonical and not handed on yet.
+    row: usize,
+    run: usize,
+    rows: u64,
+}
+
+impl Copier {
+    fn new(plan: Plan, input: File, output: File) -> Result<Copier> {
+        let mut buffer = Vec::new();
+        buffer.try_reserve_exact(STEP)?;
+        buffer.resize(STEP, 0);
+        let number = |column: &Column| {
+            matches!(
+                column,
+                Column {
+                    of: Type::Int4,
+                    nullable: false
+                }
+            )
+        };
+        Ok(Copier {
+            numbers: plan.field_max >= 4 && plan.columns.iter().all(number),
+            plan,
+            input,
+            output: BufWriter::with_capacity(KEPT, output),
+            buffer,
+            end: 0,
+            row: 0,
+            run: 0,
+            rows: 0,
+        })
+    }
+
+    /// Hands on the run up to a place, and begins another run and another row behind it.
+    #[inline]
+    fn hand_on(&mut self, to: usize, behind: usize) -> Result<()> {
+        let handed = self.output.write_all(&self.buffer[self.run..to]);
+        self.run = behind;
+        self.row = behind;
+        handed.map_err(|_| Fault::Write)
+    }
+
+    /// Reads on, where less than `wanted` bytes of the row are there. The row is moved to the front
+    /// of the buffer, which grows with what was read, so that a stated length alone takes no
+    /// memory.
+    fn read_on(&mut self, wanted: usize) -> Result<()> {
+        if self.row > 0 {
+            let row = self.row..self.end;
+            self.end -= self.row;
+            self.hand_on(row.start, 0)?;
+            self.buffer.copy_within(row, 0);
+        }
+        if self.end == self.buffer.len() {
+            let length = wanted.next_multiple_of(STEP).min(2 * self.end);
+            self.buffer.try_reserve_exact(length - self.end)?;
+            self.buffer.resize(length, 0);
+        }
+        // Of a long row no more is read than it has, so that nothing behind it has to be moved.
+        let to = wanted.max(STEP).min(self.buffer.len());
+        loop {
+            match self.input.read(&mut self.buffer[self.end..to]) {
+                Ok(0) => return Err(Fault::Truncated),
+                Ok(read) => {
+                    self.end += read;
+                    return Ok(());
+                }
+                Err(error) if error.kind() == ErrorKind::Interrupted => {}
+                Err(_) => return Err(Fault::Read),
+            }
+        }
+    }
+
+    /// Reads until that many bytes of the row are there.
+    #[inline]
+    fn want(&mut self, bytes: usize) -> Result<()> {
+        while self.end - self.row < bytes {
+            self.read_on(bytes)?;
+        }
+        Ok(())
+    }
+
+    /// Reads until the row with that count is there whole.
+    fn want_row(&mut self, count: usize) -> Result<()> {
+        let mut whole = 2;
+        for _ in 0..count {
+            self.want(whole + 4)?;
+            let length = bytes_at(&self.buffer, self.row + whole).map_or(0, i32::from_be_bytes);
+            whole += 4 + usize::try_from(length).unwrap_or(0);
+            self.want(whole)?;
+        }
+        Ok(())
+    }
+
+    /// Takes the header, and hands on the canonical one.
+    fn take_header(&mut self) -> Result<()> {
+        self.want(HEADER.len())?;
+        let flags = bytes_at(&self.buffer, 11).map_or(0, u32::from_be_bytes);
+        let extension = bytes_at(&self.buffer, 15).map_or(0, i32::from_be_bytes);
+        if self.buffer[..11] != HEADER[..11] {
+            return Err(Fault::BadHeader);
+        }
+        if flags > 0xffff {
+            return Err(Fault::BadFlags(flags));
+        }
+        let mut extension = usize::try_from(extension).map_err(|_| Fault::BadHeader)?;
+        self.run = HEADER.len();
+        self.row = HEADER.len();
+        while extension > 0 {
+            self.want(1)?;
+            let passed = extension.min(self.end - self.row);
+            extension -= passed;
+            self.row += passed;
+            self.run = self.row;
+        }
+        self.output.write_all(&HEADER).map_err(|_| Fault::Write)
+    }
+
+    /// Passes over whole rows of numbers. They are canonical where their counts and lengths are
+    /// right.
+    fn pass_numbers(&mut self) {
+        let columns = self.plan.columns.len();
+        let size = 2 + 8 * columns;
+        let most = usize::try_from(self.plan.rows_max - self.rows).unwrap_or(usize::MAX);
+        let rows = &self.buffer[self.row..self.end];
+        let passed = if columns == 1 {
+            right_numbers(rows, most)
+        } else {
+            let rows = rows.chunks_exact(size).take(most);
+            rows.take_while(|row| is_right(row, columns)).count()
+        };
+        self.row += passed * size;
+        self.rows += passed as u64;
+    }
+
+    /// Takes whole rows with a value for each column. They are canonical once their nulls are, and
+    /// once the fields behind the last column are dropped.
+    fn take_rows(&mut self) -> Result<()> {
+        let columns = self.plan.columns.len();
+        while self.rows < self.plan.rows_max {
+            let bytes = &mut self.buffer[..self.end];
+            let count = bytes_at(bytes, self.row).map_or(-1, i16::from_be_bytes);
+            // Less than 0 for too few fields, and for a count that is none of a row.
+            let more = isize::from(count) - columns as isize;
+            if more < 0 {
+                break;
+            }
+            let Ok(last) = self.plan.check_fields(bytes, self.row + 2) else {
+                break;
+            };
+            if more == 0 {
+                self.row = last;
+            } else {
+                let Some(behind) = behind_fields(bytes, last, more as usize) else {
+                    break;
+                };
+                bytes[self.row..self.row + 2].copy_from_slice(&(columns as u16).to_be_bytes());
+                self.hand_on(last, behind)?;
+            }
+            self.rows += 1;
+        }
+        Ok(())
+    }
+
+    /// Why the row with that count is refused. It is there whole, and was not taken.
+    fn refusal(&mut self, count: usize) -> Fault {
+        if count < self.plan.columns.len() {
+            return Fault::TooFewFields(self.rows);
+        }
+        let fields = self.row + 2;
+        match self.plan.check_fields(&mut self.buffer[..self.end], fields) {
+            Err(Stop::Bad(column, what)) => Fault::BadField(self.rows, column, what),
+            Ok(_) | Err(Stop::Cut) => unreachable!("a whole row of values is taken"),
+        }
+    }
+
+    /// Takes all rows and the count -1 behind them.
+    fn take_all(&mut self) -> Result<()> {
+        loop {
+            if self.numbers {
+                self.pass_numbers();
+            }
+            self.take_rows()?;
+            if self.end - self.row < 2 {
+                self.want(2)?;
+                continue;
+            }
+            let count = bytes_at(&self.buffer, self.row).map_or(0, i16::from_be_bytes);
+            let Ok(fields) = usize::try_from(count) else {
+                return if count == -1 {
+                    Ok(())
+                } else {
+                    Err(Fault::BadFieldCount(count))
+                };
+            };
+            if self.rows == self.plan.rows_max {
+                return Err(Fault::RowLimit);
+            }
+            if behind_fields(&self.buffer[..self.end], self.row + 2, fields).is_some() {
+                return Err(self.refusal(fields));
+            }
+            self.want_row(fields)?;
+        }
+    }
+
+    /// Copies the stream, and answers how many rows it had. Where a fault ends the copy, the rows
+    /// before it are handed on, and dropping the writer writes them.
+    fn copy(mut self) -> Result<u64> {
+        self.take_header()?;
+        let taken = self.take_all();
+        let to = if taken.is_ok() {
+            self.row + 2
+        } else {
+            self.row
+        };
+        self.hand_on(to, to)?;
+        taken?;
+        self.output.flush().map_err(|_| Fault::Write)?;
+        Ok(self.rows)
     }
 }
 
 fn run() -> Result<u64> {
     let words: Result<Vec<String>, _> = env::args_os().skip(1).map(OsString::into_string).collect();
-    let columns = read_words(&words.map_err(|_| Fault::NotText)?)?;
-    // `io::stdout()` looks for line ends in all that it is given, so a file on the same output
-    // takes its place.
-    let output = io::stdout().as_fd().try_clone_to_owned();
-    let output = File::from(output.map_err(|_| Fault::Write)?);
-    let mut input = BufReader::with_capacity(KEPT, io::stdin().lock());
-    let mut output = BufWriter::with_capacity(KEPT, output);
-    // Where a fault ends the copy, dropping the writer writes the rows before it.
-    copy(&columns, &mut input, &mut output)
+    let plan = read_words(&words.map_err(|_| Fault::NotText)?)?;
+    // The standard library's own streams have buffers, which a copy of the descriptor goes around.
+    let input = io::stdin()
+        .as_fd()
+        .try_clone_to_owned()
+        .map_err(|_| Fault::Read)?;
+    let output = io::stdout()
+        .as_fd()
+        .try_clone_to_owned()
+        .map_err(|_| Fault::Write)?;
+    Copier::new(plan, input.into(), output.into())?.copy()
 }
 
 fn main() -> ExitCode {
