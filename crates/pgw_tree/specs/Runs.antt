@@ -46,6 +46,14 @@ pub record AreRespelledFields (most : ℕ) (columns : List Shape) (fields canoni
   pub fit : FitsRow most columns values
   pub is : canonical ≡ flat_map frame (canonical_cells columns values)
 
+-- A row stands in front of the rest, its first cells spell values that fit, and this is their canonical row.
+pub record IsRespelledRow (most : ℕ) (columns : List Shape) (bytes rest canonical : List ℕ) : Type 0 where
+  pub row : List ℕ
+  pub values : List Value
+  pub is_row : IsValuesRow most columns row values
+  pub is : bytes ≡ row ++ rest
+  pub form : canonical ≡ canonical_row columns values
+
 -- Behind so many rows some more were copied, so that there are that many now: they stand one behind the other, their values
 -- are within the limits, and their canonical form was written.
 pub record IsRun (limits : Limits) (columns : List Shape) (before after : ℕ) (Written : List ℕ → Type 0) (bytes : List ℕ) : Type 0 where

@@ -1,9 +1,7 @@
 ghost use Rattle.std.specs.Prelude.{◌≡◌, ◌++◌, ◌<◌, ◌≤◌, ◌^◌, List, ℕ, length, IfSome, IsNone};
 ghost use Rattle.std.specs.Io.{StartsWith};
-ghost use Rattle.pgw_tree.specs.Tree.{Value, shapes};
-ghost use Rattle.pgw_tree.specs.Canonical.{canonical_row};
-ghost use Rattle.pgw_tree.specs.Turns.{IsValuesRow};
-ghost use Rattle.pgw_tree.specs.Runs.{AreRespelled, AreRespelledFields};
+ghost use Rattle.pgw_tree.specs.Tree.{shapes};
+ghost use Rattle.pgw_tree.specs.Runs.{AreRespelled, AreRespelledFields, IsRespelledRow};
 
 use crate::FirstType;
 use crate::cells::push_field;
@@ -48,10 +46,9 @@ fn push_row<'a>(
     out: &mut ByteBuffer,
 ) -> Option<&'a [u8]>
     requires few { length columns.now < 2 ^ 15 }
-    ensures some { IfSome result (λ rest. (row : List ℕ) × (values : List Value)
-        × IsValuesRow field_max (shapes columns.now) row values
-        × (bytes.now ≡ row ++ rest.now)
-        × (out.new.bytes ≡ out.old.bytes ++ canonical_row (shapes columns.now) values)) }
+    ensures some { IfSome result (λ rest. (canonical : List ℕ)
+        × IsRespelledRow field_max (shapes columns.now) bytes.now rest.now canonical
+        × (out.new.bytes ≡ out.old.bytes ++ canonical)) }
     ensures kept { StartsWith out.new.bytes out.old.bytes }
 {
     let (count, fields) = take_u16(bytes)?;
@@ -77,10 +74,9 @@ fn respell_row<'a>(
     out: &mut ByteBuffer,
 ) -> Option<&'a [u8]>
     requires few { length columns.now < 2 ^ 15 }
-    ensures some { IfSome result (λ rest. (row : List ℕ) × (values : List Value)
-        × IsValuesRow field_max (shapes columns.now) row values
-        × (bytes.now ≡ row ++ rest.now)
-        × (out.new.bytes ≡ out.old.bytes ++ canonical_row (shapes columns.now) values)) }
+    ensures some { IfSome result (λ rest. (canonical : List ℕ)
+        × IsRespelledRow field_max (shapes columns.now) bytes.now rest.now canonical
+        × (out.new.bytes ≡ out.old.bytes ++ canonical)) }
     ensures none { IsNone result → out.new.bytes ≡ out.old.bytes }
 {
     let kept = out.len();

@@ -1,5 +1,7 @@
+ghost use Rattle.std.specs.Prelude.{None};
+
 use crate::{FirstList, FirstType, Limits, recopy_first};
-use pgw_wire::{MemorySink, QuietSource};
+use pgw_wire::{Failed, MemorySink, QuietSource, Sink};
 use std::alloc::Global;
 
 #[test]
@@ -36,4 +38,51 @@ fn stream_is_copied(rt: HostRuntime) {
     let copied = recopy_first(alloc, &columns, &mut source, &mut sink, limits);
     assert_eq!(rt; copied, Ok(1));
     assert_eq!(rt; sink.gained(), stream);
+}
+
+/// A sink that keeps how many bytes each write brought.
+#[derive(Drop)]
+struct Writes {
+    lengths: Vec<usize>,
+}
+
+impl Sink for Writes {
+    ghost gained = { λ _. None };
+
+    ghost settled = { λ _. None };
+
+    ghost fault_count = { λ _. 18446744073709551615 };
+
+    ghost origin = { λ _. tt };
+
+    fn write(&mut self, piece: &[u8]) -> Result<usize, Failed> {
+        self.lengths.push(piece.len()).map_err(|_| Failed)?;
+        Ok(piece.len())
+    }
+
+    fn flush(&mut self) -> Result<(), Failed> {
+        Ok(())
+    }
+
+    fn faults(&self) -> u64 {
+        u64::MAX
+    }
+}
+
+// A header, three rows as they stand, two whose null has another length, one as it stands, and the end.
+#[test]
+fn rows_that_are_shown_are_written_together(rt: HostRuntime) {
+    let stream: &[u8] = b"PGCOPY\n\xff\r\n\0\0\0\0\0\0\0\0\0\
+        \0\x01\0\0\0\x04\0\0\0\x2a\0\x01\xff\xff\xff\xff\0\x01\0\0\0\x04\0\0\0\x2a\
+        \0\x01\xff\xff\xff\xfe\0\x01\x80\0\0\0\0\x01\0\0\0\x04\0\0\0\x2a\xff\xff";
+    let alloc: Global = rt.alloc();
+    let mut source = QuietSource::new(stream.to_vec(alloc).expect(&rt, "memory"));
+    let mut sink = Writes {
+        lengths: Vec::new(alloc),
+    };
+    let columns = [FirstType::Int4Null];
+    let limits = Limits::new(6, 4).expect(&rt, "limits");
+    let copied = recopy_first(alloc, &columns, &mut source, &mut sink, limits);
+    assert_eq!(rt; copied, Ok(6));
+    assert_eq!(rt; sink.lengths.as_slice(), [19, 26, 22, 2].as_slice());
 }
