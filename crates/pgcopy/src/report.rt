@@ -1,4 +1,4 @@
-ghost use Rattle.std.specs.Prelude.{◌≡◌, ℕ, ◌≤◌, ◌++◌, codes, Ok, Err, OnOk, OnErr};
+ghost use Rattle.std.specs.Prelude.{◌≡◌, ℕ, ◌≤◌, ◌++◌, codes};
 ghost use Rattle.std.specs.List.{flat_map};
 ghost use Rattle.std.specs.Io.KnownBytes.{Appends};
 ghost use Rattle.pgw_wire.specs.Outside.{HasFailed};
@@ -7,7 +7,7 @@ ghost use Rattle.pgcopy.specs.Report.{code_of, fault_status, status_of, fault_te
 use crate::words::WordFault;
 use itoa::Buffer;
 use pgw_tree::CopyFault;
-use pgw_wire::{Break, Failed, Sink};
+use pgw_wire::{Break, Sink, send};
 
 /// The hexadecimal digits, each at the place of its value.
 const DIGITS: [u8; 16] = *b"0123456789ABCDEF";
@@ -87,21 +87,6 @@ impl Outcome {
     }
 }
 
-/// Writes the whole piece. Behind an error a front of the piece may be written.
-fn send<N: Sink>(notes: &mut N, piece: &[u8]) -> Result<(), Failed>
-    ensures ok { OnOk result (Appends (N.gained notes.old) (N.gained notes.new) piece.now) }
-    ensures gained { GainsUnlessFailed N.gained N.fault_count notes.old notes.new piece.now }
-    ensures err { OnErr result (HasFailed (N.fault_count notes.old) (N.fault_count notes.new)) }
-    ensures faults { N.fault_count notes.old ≤ N.fault_count notes.new }
-    ensures origin { N.origin notes.new ≡ N.origin notes.old }
-{
-    let mut sent = 0;
-    while sent < piece.len() {
-        sent += notes.write(&piece[sent..])?;
-    }
-    Ok(())
-}
-
 /// Writes the pieces, one behind the other.
 fn send_all<N: Sink>(notes: &mut N, pieces: &[&[u8]])
     ensures gained { GainsUnlessFailed N.gained N.fault_count notes.old notes.new (flat_map (λ p. p.now) pieces.now) }
@@ -109,7 +94,7 @@ fn send_all<N: Sink>(notes: &mut N, pieces: &[&[u8]])
     ensures origin { N.origin notes.new ≡ N.origin notes.old }
 {
     for piece in pieces {
-        if send(notes, piece).is_err() {
+        if send(notes, piece) < piece.len() {
             return;
         }
     }
