@@ -38,7 +38,7 @@ impl Read for Pieces<'_> {
 }
 
 /// How many bytes the calls move at most, and the numbers of the calls that fail, counted from 0.
-#[derive(Clone, Copy, Debug)]
+#[derive(Clone, Copy)]
 struct Calls {
     read_most: usize,
     read_fail: u64,
@@ -111,25 +111,30 @@ fn run_on<R: Abort, S: Source>(
     let written = sink.gained().len();
     let taken = prepared.input.len().saturating_sub(left_of(source));
     let whole = case.taken_at(usize::MAX);
-    assert!(rt; prepared.output.starts_with(sink.gained()), "{calls:?}");
-    if read_failed {
-        assert_eq!(rt; status, Status::Outside, "{calls:?}");
-        assert_eq!(rt; notes.gained(), b"read fault\n".as_slice(), "{calls:?}");
-        assert_eq!(rt; written, case.written_at(taken), "{calls:?}");
-        assert!(rt;
-            taken < whole || case.line == b"truncated\n".as_slice(),
-            "{calls:?}"
-        );
-    } else if write_failed {
-        assert_eq!(rt; status, Status::Outside, "{calls:?}");
-        assert_eq!(rt; notes.gained(), b"write fault\n".as_slice(), "{calls:?}");
-        assert_eq!(rt; taken, case.taken_at(written), "{calls:?}");
-    } else {
-        assert_eq!(rt; status, case.status, "{calls:?}");
-        assert_eq!(rt; notes.gained(), case.line, "{calls:?}");
-        assert_eq!(rt; written, prepared.output.len(), "{calls:?}");
-        assert_eq!(rt; taken, whole, "{calls:?}");
-    }
+    let (wanted, line, written_wanted, taken_wanted): (Status, &[u8], usize, usize) =
+        if read_failed {
+            (
+                Status::Outside,
+                b"read fault\n",
+                case.written_at(taken),
+                taken,
+            )
+        } else if write_failed {
+            (
+                Status::Outside,
+                b"write fault\n",
+                written,
+                case.taken_at(written),
+            )
+        } else {
+            (case.status, case.line, prepared.output.len(), whole)
+        };
+    assert_eq!(rt; status, wanted);
+    assert_eq!(rt; notes.gained(), line);
+    assert_eq!(rt; written, written_wanted);
+    assert_eq!(rt; taken, taken_wanted);
+    assert!(rt; prepared.output.starts_with(sink.gained()));
+    assert!(rt; !read_failed || taken < whole || case.line == b"truncated\n".as_slice());
     read_failed || write_failed
 }
 
