@@ -1,6 +1,6 @@
 pub mod Kept
 pub mod Options
-pub mod SeenWords
+pub mod ReadingWords
 pub mod Sending
 pub mod Told
 pub mod Worked

@@ -7,7 +7,7 @@ use Rattle.pgw_wire.proofs.Taking.{took_none}
 use Rattle.pgw_wire.proofs.Adding.{wrote_none}
 use Rattle.pgw_tree.specs.declared.fault.CopyFault.{CopyFault}
 use Rattle.pgw_tree.specs.declared.fault.CopyFault.TheVariants.{BadHeader, BadFlags, Truncated, BadFieldCount, UnexpectedEndOfRow, BadValue, TooLong, RowLimit, ReadFault, WriteFault, NoMemory}
-use Rattle.pgw_tree.specs.Stream.{Limits}
+use Rattle.pgw_tree.specs.Limits.{Limits}
 use Rattle.pgw_tree.specs.Tree.{Shape}
 use Rattle.pgw_tree.specs.Causes.{fault_says}
 use Rattle.pgcopy.specs.declared.report.Status.TheVariants.{Refused as status_refused, NoMemory as status_no_memory}

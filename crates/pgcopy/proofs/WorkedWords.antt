@@ -1,7 +1,7 @@
 -- What some command lines ask for, computed from the definition.
 use Rattle.std.proofs.Common.{◌≡◌, [], ◌∷◌, codes, Ok, refl}
 use Rattle.pgw_tree.specs.Tree.{int4, text, nullable}
-use Rattle.pgw_tree.specs.Stream.{default_limits}
+use Rattle.pgw_tree.specs.Limits.{default_limits}
 use Rattle.pgcopy.specs.declared.words.WordFault.TheVariants.{BadNumber, Repeated, NoTypes, NotYet}
 use Rattle.pgcopy.specs.Words.{plan_of_texts, fault_at}
 

@@ -24,17 +24,10 @@ code_of status_no_memory = 5
 
 -- A fault of the source or of the sink, and want of memory, say nothing of the stream. Each other fault refuses it.
 abbrev pub fault_status : CopyFault → Status
-fault_status BadHeader = status_refused
-fault_status (BadFlags flags) = status_refused
-fault_status Truncated = status_refused
-fault_status (BadFieldCount count) = status_refused
-fault_status (UnexpectedEndOfRow row) = status_refused
-fault_status (BadValue row column kind) = status_refused
-fault_status (TooLong row column) = status_refused
-fault_status RowLimit = status_refused
 fault_status ReadFault = status_outside
 fault_status WriteFault = status_outside
 fault_status NoMemory = status_no_memory
+fault_status _ = status_refused
 
 abbrev pub status_of : Outcome → Status
 status_of (Copied rows) = status_copied

@@ -7,7 +7,7 @@ use Rattle.std.specs.Result.{result_err}
 use Rattle.std.specs.Str.{bytes_eq, all_ascii_digits}
 use Rattle.std.specs.Str.Parse.{digits_value}
 use Rattle.pgw_tree.specs.Tree.{Shape, int4, text, nullable}
-use Rattle.pgw_tree.specs.Stream.{Limits, default_limits}
+use Rattle.pgw_tree.specs.Limits.{Limits, default_limits}
 use Rattle.pgcopy.specs.declared.words.WordFault.{WordFault}
 use Rattle.pgcopy.specs.declared.words.WordFault.TheVariants.{NoCommand, UnknownCommand, BadNumber, Repeated, NoTypes, Schema, NotYet}
 
@@ -69,8 +69,8 @@ option_fault before word =
     else Some NotYet
 
 -- What is wrong with a word behind these words, the command not among them. It is an option or a type.
-abbrev pub fault_of : List (List ℕ) → List ℕ → Option WordFault
-fault_of before word =
+abbrev pub word_fault : List (List ℕ) → List ℕ → Option WordFault
+word_fault before word =
     if list_all is_option before && is_option word then option_fault before word
     else if is_none (type_of word) then Some NotYet
     else None
@@ -79,7 +79,7 @@ fault_of before word =
 abbrev pub first_fault : List (List ℕ) → List (List ℕ) → Option PlacedFault
 first_fault before [] = None
 first_fault before (word ∷ words) =
-    option_or (option_map (λ fault. record { place = length before + 1; fault = fault }) (fault_of before word))
+    option_or (option_map (λ fault. record { place = length before + 1; fault = fault }) (word_fault before word))
     (first_fault (before ++ word ∷ []) words)
 
 -- the number that an option sets, or else its default

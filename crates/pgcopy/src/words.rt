@@ -1,11 +1,10 @@
 ghost use Rattle.std.specs.Prelude.{◌≡◌, ℕ, ◌≤◌, ◌<◌, List, [], ◌∷◌, ◌++◌, length, map, string_bytes, Option, Some, None, option_map, Ok, Err, true, IfOk, IfErr, IfSome, IsOk, MatchResult};
 ghost use Rattle.std.specs.List.{filter_map, list_all};
 ghost use Rattle.std.specs.Option.{unwrap_or};
-ghost use Rattle.pgw_tree.specs.Tree.{shape, shapes};
-ghost use Rattle.pgw_tree.specs.Stream.{default_limits};
-ghost use Rattle.pgw_tree.specs.Handed.{columns_of};
-ghost use Rattle.pgcopy.specs.Words.{type_of, behind, is_option, number_of, option_fault, fault_of, first_fault, plan_of};
-ghost use Rattle.pgcopy.specs.Seen.{HasSeen};
+ghost use Rattle.pgw_tree.specs.Tree.{shape, shapes, columns_of};
+ghost use Rattle.pgw_tree.specs.Limits.{default_limits};
+ghost use Rattle.pgcopy.specs.Words.{type_of, behind, is_option, number_of, option_fault, word_fault, first_fault, plan_of};
+ghost use Rattle.pgcopy.specs.WordsRead.{AreRead};
 
 use pgw_tree::{FirstList, FirstType, Limits};
 use pgw_wire::NoMemory;
@@ -69,7 +68,7 @@ pub struct Plan {
 
 /// What was read of the words so far: the numbers of the options, and how many types there are.
 #[derive(Clone, Copy)]
-struct Seen {
+struct WordsRead {
     rows: Option<u64>,
     field: Option<u64>,
     types: usize,
@@ -128,21 +127,21 @@ fn number_of(digits: &str, most: u64, again: bool) -> Result<u64, WordFault>
 }
 
 /// Reads an option behind others.
-fn read_option(seen: Seen, word: &str) -> Result<Seen, WordFault>
-    ensures { (before : List (List ℕ)) → HasSeen seen before
+fn read_option(seen: WordsRead, word: &str) -> Result<WordsRead, WordFault>
+    ensures { (before : List (List ℕ)) → AreRead seen before
         → list_all is_option before ≡ true → is_option word.now ≡ true
-        → MatchResult result (λ next. (option_fault before word.now ≡ None) × HasSeen next (before ++ (word.now ∷ [])))
+        → MatchResult result (λ next. (option_fault before word.now ≡ None) × AreRead next (before ++ (word.now ∷ [])))
         (λ fault. option_fault before word.now ≡ Some fault) }
 {
     if let Some(digits) = behind(word, "rows=") {
         let rows = number_of(digits, ROWS_MAX, seen.rows.is_some())?;
-        Ok(Seen {
+        Ok(WordsRead {
             rows: Some(rows),
             ..seen
         })
     } else if let Some(digits) = behind(word, "field=") {
         let field = number_of(digits, FIELD_MAX, seen.field.is_some())?;
-        Ok(Seen {
+        Ok(WordsRead {
             field: Some(field),
             ..seen
         })
@@ -152,16 +151,16 @@ fn read_option(seen: Seen, word: &str) -> Result<Seen, WordFault>
 }
 
 /// Reads a word behind others.
-fn read_word(seen: Seen, word: &str) -> Result<Seen, WordFault>
+fn read_word(seen: WordsRead, word: &str) -> Result<WordsRead, WordFault>
     requires { seen.types < 18446744073709551615 }
-    ensures { (before : List (List ℕ)) → HasSeen seen before
-        → MatchResult result (λ next. (fault_of before word.now ≡ None) × HasSeen next (before ++ (word.now ∷ [])))
-        (λ fault. fault_of before word.now ≡ Some fault) }
+    ensures { (before : List (List ℕ)) → AreRead seen before
+        → MatchResult result (λ next. (word_fault before word.now ≡ None) × AreRead next (before ++ (word.now ∷ [])))
+        (λ fault. word_fault before word.now ≡ Some fault) }
 {
     if seen.types == 0 && is_option(word) {
         read_option(seen, word)
     } else if type_of(word).is_some() {
-        Ok(Seen {
+        Ok(WordsRead {
             types: seen.types + 1,
             ..seen
         })
@@ -171,13 +170,13 @@ fn read_word(seen: Seen, word: &str) -> Result<Seen, WordFault>
 }
 
 /// Reads the words behind the command. An error has its place.
-fn read_behind(words: &[String]) -> Result<Seen, (usize, WordFault)>
+fn read_behind(words: &[String]) -> Result<WordsRead, (usize, WordFault)>
     ensures ok { IfOk result (λ seen. (first_fault [] (map string_bytes words.now) ≡ None)
-        × HasSeen seen (map string_bytes words.now)) }
+        × AreRead seen (map string_bytes words.now)) }
     ensures err { IfErr result (λ e. first_fault [] (map string_bytes words.now)
         ≡ Some (record { place = e.0; fault = e.1 })) }
 {
-    let mut seen = Seen {
+    let mut seen = WordsRead {
         rows: None,
         field: None,
         types: 0,
@@ -205,7 +204,7 @@ fn known_types(alloc: Global, words: &[String]) -> Result<FirstList, NoMemory>
 }
 
 /// The limits that the options set, and the defaults of the others.
-fn limits_from(seen: Seen) -> Limits
+fn limits_from(seen: WordsRead) -> Limits
     requires field { IfSome seen.field (λ field. field ≤ 2147483647) }
     ensures { result ≡ record {
       rows_max = unwrap_or seen.rows default_limits.rows_max;

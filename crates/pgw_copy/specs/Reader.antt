@@ -18,22 +18,17 @@ pub record Takes {X : Type 0} (before now : Option (List ℕ)) (failed : Type 0)
 
 -- Where a call stops at the end or at a fault of the source, what was taken has Cut. It answers no other error.
 abbrev pub cut_fault : (List ℕ → Type 0) → CopyReadError → List ℕ → Type 0
-cut_fault Cut BadHeader bytes = ⊥
-cut_fault Cut (BadFlags flags) bytes = ⊥
 cut_fault Cut Truncated bytes = Cut bytes
-cut_fault Cut (BadFieldCount count) bytes = ⊥
 cut_fault Cut ReadFault bytes = Cut bytes
-cut_fault Cut NoMemory bytes = ⊥
+cut_fault Cut _ bytes = ⊥
 
 -- The same of a call that keeps what it takes: where memory is refused, what was taken has Cut too, or it is all that the
 -- call takes, which has Whole.
 abbrev pub kept_fault : (List ℕ → Type 0) → (List ℕ → Type 0) → CopyReadError → List ℕ → Type 0
-kept_fault Cut Whole BadHeader bytes = ⊥
-kept_fault Cut Whole (BadFlags flags) bytes = ⊥
 kept_fault Cut Whole Truncated bytes = Cut bytes
-kept_fault Cut Whole (BadFieldCount count) bytes = ⊥
 kept_fault Cut Whole ReadFault bytes = Cut bytes
 kept_fault Cut Whole NoMemory bytes = Cut bytes ⊎ Whole bytes
+kept_fault Cut Whole _ bytes = ⊥
 
 abbrev pub IsShort : ℕ → List ℕ → Type 0
 IsShort size bytes = length bytes < size
@@ -66,18 +61,14 @@ abbrev pub header_fault : CopyReadError → List ℕ → Type 0
 header_fault BadHeader bytes = IsBadHeader bytes
 header_fault (BadFlags flags) bytes = HasHighFlags flags bytes
 header_fault Truncated bytes = IsCutHeader bytes
-header_fault (BadFieldCount count) bytes = ⊥
 header_fault ReadFault bytes = IsCutHeader bytes
-header_fault NoMemory bytes = ⊥
+header_fault _ bytes = ⊥
 
 -- what an error says of the 19 bytes that could begin a header
 abbrev pub fixed_fault : CopyReadError → List ℕ → Type 0
 fixed_fault BadHeader bytes = IsBadHeader bytes
 fixed_fault (BadFlags flags) bytes = HasHighFlags flags bytes
-fixed_fault Truncated bytes = ⊥
-fixed_fault (BadFieldCount count) bytes = ⊥
-fixed_fault ReadFault bytes = ⊥
-fixed_fault NoMemory bytes = ⊥
+fixed_fault _ bytes = ⊥
 
 -- The two bytes of a count below -1: of a number without sign from 2 ^ 15 on, but for the largest, which with its sign is
 -- the count.
@@ -89,12 +80,10 @@ pub record IsBadCount (count : ℤ) (bytes : List ℕ) : Type 0 where
   pub is : bytes ≡ to_be_bytes w16 unsigned
 
 abbrev pub count_fault : CopyReadError → List ℕ → Type 0
-count_fault BadHeader bytes = ⊥
-count_fault (BadFlags flags) bytes = ⊥
 count_fault Truncated bytes = IsShort 2 bytes
 count_fault (BadFieldCount count) bytes = IsBadCount count bytes
 count_fault ReadFault bytes = IsShort 2 bytes
-count_fault NoMemory bytes = ⊥
+count_fault _ bytes = ⊥
 
 abbrev pub IsWholeField : List ℕ → Type 0
 IsWholeField bytes = (cell : Cell) × IsField cell bytes
@@ -120,9 +109,8 @@ IsRowOrEnd None bytes = bytes ≡ trailer
 IsRowOrEnd (Some cells) bytes = IsRow cells bytes
 
 abbrev pub row_fault : CopyReadError → List ℕ → Type 0
-row_fault BadHeader bytes = ⊥
-row_fault (BadFlags flags) bytes = ⊥
 row_fault Truncated bytes = IsCutRow bytes
 row_fault (BadFieldCount count) bytes = IsBadCount count bytes
 row_fault ReadFault bytes = IsCutRow bytes
 row_fault NoMemory bytes = IsCutRow bytes ⊎ IsWholeRow bytes
+row_fault _ bytes = ⊥

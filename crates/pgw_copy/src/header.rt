@@ -4,7 +4,7 @@ ghost use Rattle.pgw_copy.specs.Format.{IsFixedHeader, IsHeader};
 ghost use Rattle.pgw_copy.specs.Reader.{Takes, header_fault, fixed_fault};
 
 use crate::CopyReadError;
-use crate::source::{fill, pass_over};
+use crate::filling::{fill, pass_over};
 use pgw_wire::{Source, take_piece, take_u32};
 
 /// The bytes that every stream begins with.

@@ -2,10 +2,10 @@
 #![tactic(auto)]
 
 mod fault;
+mod filling;
 mod header;
 mod reader;
 mod row;
-mod source;
 mod taken;
 #[cfg(test)]
 mod tests;

@@ -8,9 +8,9 @@ ghost use Rattle.pgw_copy.specs.Format.{IsHeader, IsCount, AreFields};
 ghost use Rattle.pgw_copy.specs.Reader.{Takes, kept_fault, header_fault, count_fault, row_fault, AreCutFields, AreWholeFields, IsRowOrEnd};
 ghost use Rattle.pgw_copy.specs.State.{pending, is_over, IsReady, IsEnded, cells_of, bytes_of};
 
+use crate::filling::fill;
 use crate::header::take_header;
 use crate::row::RowBuffer;
-use crate::source::fill;
 use crate::{CopyReadError, RawRow};
 use pgw_wire::{Source, take_u16};
 use std::alloc::Global;

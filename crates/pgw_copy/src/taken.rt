@@ -4,7 +4,7 @@ ghost use Rattle.pgw_wire.specs.Outside.{HasFailed};
 ghost use Rattle.pgw_copy.specs.Reader.{Takes, kept_fault, IsShort};
 
 use crate::CopyReadError;
-use crate::source::fill;
+use crate::filling::fill;
 use pgw_wire::{Source, take_u32};
 use std::alloc::{AllocError, Global};
 use std::marker::Model;

@@ -13,12 +13,13 @@ use Rattle.pgw_copy.specs.declared.fault.CopyReadError.{CopyReadError}
 use Rattle.pgw_copy.specs.declared.fault.CopyReadError.TheVariants.{BadHeader, BadFlags, Truncated, BadFieldCount, ReadFault, NoMemory}
 use Rattle.pgw_tree.specs.declared.fault.CopyFault.{CopyFault}
 use Rattle.pgw_tree.specs.Tree.{Shape, Value}
-use Rattle.pgw_tree.specs.Spells.{SpellsRow, FitsRow}
-use Rattle.pgw_tree.specs.Stream.{AreRows, IsFront, IsWithin, Limits}
-use Rattle.pgw_tree.specs.Canonical.{canonical_row, canonical_front}
-use Rattle.pgw_tree.specs.Faults.{fault_of}
+use Rattle.pgw_tree.specs.Spells.{SpellsRow}
+use Rattle.pgw_tree.specs.Canonical.{FitsRow, canonical_row, canonical_front}
+use Rattle.pgw_tree.specs.Stream.{AreRows, IsFront, IsWithin}
+use Rattle.pgw_tree.specs.Limits.{Limits}
+use Rattle.pgw_tree.specs.ReadErrors.{fault_of}
 use Rattle.pgw_tree.specs.Causes.{PartWritten, header_cause}
-use Rattle.pgw_tree.specs.Turns.{IsValuesRow, IsCopying}
+use Rattle.pgw_tree.specs.Copying.{IsValuesRow, IsCopying}
 
 pub rows_more : (ts : List Shape) (body x : List ℕ) (rows : List (List Value)) (cells : List Cell) (vs : List Value) → AreRows ts body rows → IsRow cells x → SpellsRow ts cells vs → AreRows ts (body ++ x) (rows ++ (vs ∷ []))
 rows_more ts body x [] cells vs each row spelled = (cells, x, [], row, spelled, refl, ap (λ l. l ++ x) each ∙ sym (append-nil x))
@@ -70,8 +71,8 @@ one_copied limits ts n a b c s t u x y written vs k more row is wrote = record {
 }
 
 -- what was written of what comes next
-pub part_written : {a b c : Option (List ℕ)} {s t u : Option Bool} (must next : List ℕ) → Wrote a b s t must → WroteFront b c t u next → PartWritten must next (Wrote a c s u)
-part_written must next w f = record { front = f.front; rest = f.rest; is = f.splits; written = wrote_then w f.wrote }
+pub part_written : {a b c : Option (List ℕ)} {s t u : Option Bool} (before next : List ℕ) → Wrote a b s t before → WroteFront b c t u next → PartWritten before next (Wrote a c s u)
+part_written before next w f = record { front = f.front; rest = f.rest; is = f.splits; written = wrote_then w f.wrote }
 
 -- what an error of the reader's header says
 pub header_says : (e : CopyReadError) (bytes : List ℕ) → header_fault e bytes → header_cause (fault_of e) bytes

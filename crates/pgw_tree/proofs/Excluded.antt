@@ -9,10 +9,12 @@ use Rattle.pgw_copy.specs.Reader.{IsBadHeader, HasHighFlags, HasNegativeExtensio
 use Rattle.pgw_tree.specs.declared.fault.CopyFault.{CopyFault}
 use Rattle.pgw_tree.specs.declared.fault.CopyFault.TheVariants.{BadHeader, BadFlags, Truncated, BadFieldCount, UnexpectedEndOfRow, BadValue, TooLong, RowLimit, ReadFault, WriteFault, NoMemory}
 use Rattle.pgw_tree.specs.Tree.{Shape, int4, text, nullable, Value}
-use Rattle.pgw_tree.specs.Spells.{SpellsPiece, Spells, SpellsRow, Fits, FitsRow}
+use Rattle.pgw_tree.specs.Spells.{SpellsPiece, Spells, SpellsRow}
+use Rattle.pgw_tree.specs.Canonical.{Fits, FitsRow}
 use Rattle.pgw_tree.specs.Breaks.{BreaksPiece, Breaks}
 use Rattle.pgw_tree.specs.Columns.{BreaksAt, IsLongAt}
-use Rattle.pgw_tree.specs.Stream.{Limits, AreRows, IsFront, IsValidStream}
+use Rattle.pgw_tree.specs.Stream.{AreRows, IsFront, IsValidStream}
+use Rattle.pgw_tree.specs.Limits.{Limits}
 use Rattle.pgw_tree.specs.Causes.{header_cause, row_cause, fault_says}
 use Rattle.pgw_copy.proofs.Lists.{same_front, same_rest}
 use Rattle.pgw_copy.proofs.Numbers.{same_number_2, same_number_4}

@@ -8,7 +8,8 @@ use Rattle.pgw_wire.proofs.Taking.{took_weaker, took_from, ended}
 use Rattle.pgw_tree.specs.declared.fault.CopyFault.{CopyFault}
 use Rattle.pgw_tree.specs.declared.fault.CopyFault.TheVariants.{Truncated, ReadFault, WriteFault, NoMemory}
 use Rattle.pgw_tree.specs.Tree.{Shape, Value}
-use Rattle.pgw_tree.specs.Stream.{IsStream, IsValidStream, IsWithin, Limits}
+use Rattle.pgw_tree.specs.Stream.{IsStream, IsValidStream, IsWithin}
+use Rattle.pgw_tree.specs.Limits.{Limits}
 use Rattle.pgw_tree.specs.Canonical.{canonical_front, canonical_stream}
 use Rattle.pgw_tree.specs.Causes.{IsCopied, fault_says, in_header, in_row, in_end}
 use Rattle.pgw_tree.proofs.Unique.{stream_once}

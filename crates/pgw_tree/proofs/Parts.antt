@@ -17,10 +17,10 @@ use Rattle.pgw_copy.proofs.Reading.{cut_row, row_of}
 use Rattle.pgw_tree.specs.declared.fault.CopyFault.{CopyFault}
 use Rattle.pgw_tree.specs.declared.fault.CopyFault.TheVariants.{Truncated, ReadFault}
 use Rattle.pgw_tree.specs.Tree.{Shape}
-use Rattle.pgw_tree.specs.Stream.{Limits}
-use Rattle.pgw_tree.specs.Faults.{fault_of}
+use Rattle.pgw_tree.specs.Limits.{Limits}
+use Rattle.pgw_tree.specs.ReadErrors.{fault_of}
 use Rattle.pgw_tree.specs.Causes.{row_cause}
-use Rattle.pgw_tree.specs.Turns.{TakesPart}
+use Rattle.pgw_tree.specs.Copying.{TakesPart}
 
 along : {Z : Type 0} (R : Z → Type 0) {u v : Z} → u ≡ v → R u → R v
 along R e p = rw (← e) p

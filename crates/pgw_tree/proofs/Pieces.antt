@@ -5,7 +5,8 @@ use Rattle.std.proofs.lemmas.Int.{of_z-to_z}
 use Rattle.std.proofs.lemmas.Nat.{be_bytes_4}
 use Rattle.std.proofs.Math.Facts.{sfits_to_z}
 use Rattle.pgw_tree.specs.Tree.{Shape, int4, text, nullable, Value, number}
-use Rattle.pgw_tree.specs.Spells.{SpellsPiece, canonical_cell}
+use Rattle.pgw_tree.specs.Spells.{SpellsPiece}
+use Rattle.pgw_tree.specs.Canonical.{canonical_cell}
 
 -- Any four bytes spell a number.
 pub four_spelled : (piece : List ℕ) → length piece ≡ 4 → ((i : ℕ) → get_or piece i 0 < 256) → (v : Value) × SpellsPiece int4 piece v

@@ -12,8 +12,8 @@ use Rattle.std.proofs.lemmas.Grind.{flat_map-append}
 use Rattle.pgw_wire.specs.Cell.{Cell, frame}
 use Rattle.pgw_copy.specs.Format.{IsField, AreFields, IsRow}
 use Rattle.pgw_tree.specs.Tree.{Shape, Value, nullable, null, is_nullable}
-use Rattle.pgw_tree.specs.Spells.{Spells, SpellsPiece, SpellsRow, FitsRow, canonical_cell, size_of}
-use Rattle.pgw_tree.specs.Canonical.{canonical_cells, canonical_row}
+use Rattle.pgw_tree.specs.Spells.{Spells, SpellsPiece, SpellsRow}
+use Rattle.pgw_tree.specs.Canonical.{FitsRow, canonical_cell, size_of, canonical_cells, canonical_row}
 use Rattle.pgw_tree.specs.Stream.{AreRows}
 use Rattle.pgw_tree.specs.Plain.{IsPlainPieceBefore, IsPlainField, IsPlainRow, ArePlainRows}
 use Rattle.pgw_copy.proofs.Fields.{fields_append}
@@ -46,11 +46,11 @@ plain_null most t may_be = record {
 -- what the field of a piece in front of the rest says of a type
 pub plain_at : (most : ℕ) (t u : Shape) (bytes rest : List ℕ) → most < 2 ^ 31 → u ≡ t → IsPlainPieceBefore most t bytes rest → (field : List ℕ) × IsPlainField most u field × (bytes ≡ field ++ rest)
 plain_at most t u bytes rest max is p =
-    (frame (Some p.piece), subst (λ (s : Shape). IsPlainField most s (frame (Some p.piece))) (sym is) (plain_piece most t p.piece p.value max p.spells p.long), p.is)
+    (frame (Some p.piece), subst (λ (s : Shape). IsPlainField most s (frame (Some p.piece))) (sym is) (plain_piece most t p.piece p.value max p.spells p.fits), p.is)
 
 -- A nullable type has the pieces of its part.
 pub plain_nullable : (most : ℕ) (t : Shape) (bytes rest : List ℕ) → IsPlainPieceBefore most t bytes rest → IsPlainPieceBefore most (nullable t) bytes rest
-plain_nullable most t bytes rest p = record { piece = p.piece; value = p.value; spells = p.spells; long = p.long; is = p.is }
+plain_nullable most t bytes rest p = record { piece = p.piece; value = p.value; spells = p.spells; fits = p.fits; is = p.is }
 
 pub null_at : (most : ℕ) (t u : Shape) (bytes rest : List ℕ) → u ≡ nullable t → bytes ≡ frame None ++ rest → (field : List ℕ) × IsPlainField most u field × (bytes ≡ field ++ rest)
 null_at most t u bytes rest is e = (frame None, subst (λ (s : Shape). IsPlainField most s (frame None)) (sym is) (plain_null most (nullable t) refl), e)

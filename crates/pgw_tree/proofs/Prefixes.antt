@@ -8,9 +8,9 @@ use Rattle.pgw_wire.specs.Cell.{Cell, frame}
 use Rattle.pgw_tree.specs.declared.types.FirstType.{FirstType}
 use Rattle.pgw_tree.specs.declared.types.FirstType.TheVariants.{Int4}
 use Rattle.pgw_tree.specs.Tree.{Shape, Value, shape, shapes}
-use Rattle.pgw_tree.specs.Spells.{Spells, SpellsRow, Fits, FitsRow, canonical_cell}
-use Rattle.pgw_tree.specs.Canonical.{canonical_cells}
-use Rattle.pgw_tree.specs.Columns.{IsBehind}
+use Rattle.pgw_tree.specs.Spells.{Spells, SpellsRow}
+use Rattle.pgw_tree.specs.Canonical.{Fits, FitsRow, canonical_cell, canonical_cells}
+use Rattle.pgw_tree.specs.Columns.{IsColumnAt}
 
 pub spells_more : (ts : List Shape) (cells : List Cell) (vs : List Value) (t : Shape) (c : Cell) (v : Value) → length cells ≡ length ts → SpellsRow ts cells vs → Spells t c v → SpellsRow (ts ++ (t ∷ [])) (cells ++ (c ∷ [])) (vs ++ (v ∷ []))
 spells_more [] [] [] t c v many spelled one = (one, tt)
@@ -60,8 +60,8 @@ as_many ts cells i c within at =
     length-take-le i cells (omega (arith, inside)) ∙ sym (length-map (take i ts) shape ∙ length-take-le i ts (omega (arith, within)))
 
 -- the columns in front of one, and their values
-pub behind_at : (most : ℕ) (ts : List FirstType) (cells : List Cell) (i : ℕ) (c : Cell) (vs : List Value) → i < length ts → slice_get cells i ≡ Some c → SpellsRow (shapes (take i ts)) (take i cells) vs → FitsRow most (shapes (take i ts)) vs → IsBehind most (shapes ts) cells i (shape (get_or ts i Int4)) c
-behind_at most ts cells i c vs within at spelled fit =
+pub column_at : (most : ℕ) (ts : List FirstType) (cells : List Cell) (i : ℕ) (c : Cell) (vs : List Value) → i < length ts → slice_get cells i ≡ Some c → SpellsRow (shapes (take i ts)) (take i cells) vs → FitsRow most (shapes (take i ts)) vs → IsColumnAt most (shapes ts) cells i (shape (get_or ts i Int4)) c
+column_at most ts cells i c vs within at spelled fit =
     let inside = slice_get_within cells i c at in
     let long = length-take-le i ts (omega (arith, within)) in
     record {

@@ -7,9 +7,9 @@ use Rattle.pgw_wire.specs.Cell.{Cell, frame}
 use Rattle.pgw_copy.specs.Format.{IsField, AreFields}
 use Rattle.pgw_copy.proofs.Fields.{fields_append}
 use Rattle.pgw_tree.specs.Tree.{Shape, Value}
-use Rattle.pgw_tree.specs.Spells.{Spells, SpellsRow, Fits, FitsRow, canonical_cell, size_of}
-use Rattle.pgw_tree.specs.Canonical.{canonical_cells, canonical_row}
-use Rattle.pgw_tree.specs.Turns.{IsValuesRow}
+use Rattle.pgw_tree.specs.Spells.{Spells, SpellsRow}
+use Rattle.pgw_tree.specs.Canonical.{Fits, FitsRow, canonical_cell, size_of, canonical_cells, canonical_row}
+use Rattle.pgw_tree.specs.Copying.{IsValuesRow}
 use Rattle.pgw_tree.specs.Plain.{IsPlainRow, ArePlainRows}
 use Rattle.pgw_tree.specs.Runs.{AreRespelled, AreRespelledFields}
 use Rattle.pgw_tree.proofs.Prefixes.{spells_more, fits_more, canonical_more}

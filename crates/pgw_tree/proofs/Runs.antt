@@ -10,10 +10,11 @@ use Rattle.pgw_wire.proofs.Taking.{took_then}
 use Rattle.pgw_wire.proofs.Adding.{wrote_then}
 use Rattle.pgw_copy.specs.Reader.{IsWholeRow}
 use Rattle.pgw_copy.specs.Writer.{WroteFront}
-use Rattle.pgw_tree.specs.Spells.{SpellsRow, FitsRow}
-use Rattle.pgw_tree.specs.Canonical.{canonical_row, canonical_front}
-use Rattle.pgw_tree.specs.Stream.{AreRows, IsFront, IsWithin, Limits}
-use Rattle.pgw_tree.specs.Turns.{IsValuesRow, IsCopying}
+use Rattle.pgw_tree.specs.Spells.{SpellsRow}
+use Rattle.pgw_tree.specs.Canonical.{FitsRow, canonical_row, canonical_front}
+use Rattle.pgw_tree.specs.Stream.{AreRows, IsFront, IsWithin}
+use Rattle.pgw_tree.specs.Limits.{Limits}
+use Rattle.pgw_tree.specs.Copying.{IsValuesRow, IsCopying}
 use Rattle.pgw_tree.specs.Causes.{fault_says, in_row, row_cause}
 use Rattle.pgw_tree.specs.declared.fault.CopyFault.{CopyFault}
 use Rattle.pgw_tree.specs.declared.fault.CopyFault.TheVariants.{ReadFault, WriteFault}
@@ -23,7 +24,7 @@ use Rattle.pgw_copy.proofs.Lists.{same_front, same_rest}
 use Rattle.pgw_copy.proofs.Numbers.{same_number_2}
 use Rattle.pgw_tree.specs.Tree.{Shape, Value}
 use Rattle.pgw_tree.specs.Plain.{IsPlainRow, ArePlainRows}
-use Rattle.pgw_tree.specs.Runs.{AreRespelled, EndsInRow, IsRun, IsBrokenRun, turn_fault}
+use Rattle.pgw_tree.specs.Runs.{AreRespelled, EndsInRow, IsRun, IsBrokenRun, next_row_fault}
 use Rattle.pgw_tree.proofs.Copies.{front_more, within_more, rows_more}
 use Rattle.pgw_tree.proofs.RowFields.{fields_once}
 use Rattle.pgw_tree.proofs.PlainRows.{rows_one_more, plain_rows_fit, plain_rows_are}
@@ -124,7 +125,7 @@ ends_in most columns rows canonical rest front behind cut cut_rest row row_rest 
     let n = next_of most columns s.after rest behind s.plain_after s.each_after some in
     let same = cut_at n.plain.row.cells at.canonical_row.0 n.canonical n.canonical_rest cut cut_rest rest n.plain.row.is at.canonical_row.1 n.canonical_is at.canonical_is in
     let same_row = cut_at n.cells at.is_row.0 n.row n.row_rest row row_rest behind n.is_row at.is_row.1 n.row_is at.row_is in
-    let must = plain_rows_are most columns canonical s.before s.plain in
+    let prior = plain_rows_are most columns canonical s.before s.plain in
     let last : cut ≡ canonical_row columns n.values = sym same.0 ∙ n.plain.is in
     record {
       before = s.before;
@@ -136,8 +137,8 @@ ends_in most columns rows canonical rest front behind cut cut_rest row row_rest 
       each = s.each;
       is_last = record { cells = n.cells; is = subst (λ (l : List ℕ). IsRow n.cells l) same_row.0 n.is_row; spelled = n.spelled; fit = n.plain.row.fit };
       is = is;
-      begun = omega (arith, begun, ap length must);
-      ends = omega (arith, ends, ap length must, ap length last);
+      begun = omega (arith, begun, ap length prior);
+      ends = omega (arith, ends, ap length prior, ap length last);
     }
 
 -- Where rows are left, one stands in front of them, and so does one in front of their canonical form.
@@ -234,11 +235,11 @@ broken_one limits ts n row vs more r w = record {
 }
 
 -- so many bytes of some rows, of one row more, and of what is behind
-sent_part : (must last more : List ℕ) (sent : ℕ) → length must ≤ sent → sent < length must + length last → take sent (must ++ (last ++ more)) ≡ must ++ take (sent - length must) last
-sent_part must last more sent begun ends =
-    let part = sent - length must in
-    let split : sent ≡ length must + part = omega (arith, begun) in
-    ap (λ k. take k (must ++ (last ++ more))) split ∙ take-append-add must (last ++ more) part ∙ ap (λ l. must ++ l) (take-append-le part last more (omega (arith, ends, begun)))
+sent_part : (prior last more : List ℕ) (sent : ℕ) → length prior ≤ sent → sent < length prior + length last → take sent (prior ++ (last ++ more)) ≡ prior ++ take (sent - length prior) last
+sent_part prior last more sent begun ends =
+    let part = sent - length prior in
+    let split : sent ≡ length prior + part = omega (arith, begun) in
+    ap (λ k. take k (prior ++ (last ++ more))) split ∙ take-append-add prior (last ++ more) part ∙ ap (λ l. prior ++ l) (take-append-le part last more (omega (arith, ends, begun)))
 
 -- The canonical form of rows, of which one is the last that was sent.
 form_of : (ts : List Shape) (before after : List (List Value)) (last : List Value) → flat_map (canonical_row ts) (before ++ (last ∷ after)) ≡ flat_map (canonical_row ts) before ++ (canonical_row ts last ++ flat_map (canonical_row ts) after)
@@ -252,11 +253,11 @@ fit_before P (x ∷ xs) ys h = (h.0, fit_before P xs ys h.1)
 pub broken_part : (limits : Limits) (ts : List Shape) (n many sent : ℕ) {a b : Option (List ℕ)} {s t : Option Bool} (canonical run bytes : List ℕ) → n + many ≤ limits.rows_max → (all : AreRespelled limits.field_max ts many canonical run) → EndsInRow limits.field_max ts all.rows sent bytes → Wrote a b s t (take sent canonical) → IsBrokenRun limits ts n (Wrote a b s t) bytes
 broken_part limits ts n many sent {a = a} {b = b} {s = s} {t = t} canonical run bytes few all ends w =
     let most = limits.field_max in
-    let must = flat_map (canonical_row ts) ends.before in
+    let prior = flat_map (canonical_row ts) ends.before in
     let last = canonical_row ts ends.last in
-    let part = sent - length must in
+    let part = sent - length prior in
     let form = plain_rows_are most ts canonical all.rows all.plain ∙ ap (flat_map (canonical_row ts)) ends.rows_are ∙ form_of ts ends.before ends.after ends.last in
-    let sent_is : take sent canonical ≡ must ++ take part last = ap (take sent) form ∙ sent_part must last (flat_map (canonical_row ts) ends.after) sent ends.begun ends.ends in
+    let sent_is : take sent canonical ≡ prior ++ take part last = ap (take sent) form ∙ sent_part prior last (flat_map (canonical_row ts) ends.after) sent ends.begun ends.ends in
     record {
       rows = ends.before;
       last = ends.last;
@@ -273,7 +274,7 @@ broken_part limits ts n many sent {a = a} {b = b} {s = s} {t = t} canonical run 
 -- Rows were copied, and behind them the sink failed.
 pub broken_more : (limits : Limits) (ts : List Shape) (n m : ℕ) {a b c : Option (List ℕ)} {s t u : Option Bool} (x y : List ℕ) → IsRun limits ts n m (Wrote a b s t) x → IsBrokenRun limits ts m (Wrote b c t u) y → IsBrokenRun limits ts n (Wrote a c s u) (x ++ y)
 broken_more limits ts n m {a = a} {c = c} {s = s} {u = u} x y r q =
-    let must = flat_map (canonical_row ts) r.rows in
+    let prior = flat_map (canonical_row ts) r.rows in
     let more = flat_map (canonical_row ts) q.rows in
     record {
       rows = r.rows ++ q.rows;
@@ -289,7 +290,7 @@ broken_more limits ts n m {a = a} {c = c} {s = s} {u = u} x y r q =
         front = q.part.front;
         rest = q.part.rest;
         is = q.part.is;
-        written = subst (λ (l : List ℕ). Wrote a c s u l) (sym (append_assoc must more q.part.front) ∙ ap (λ l. l ++ q.part.front) (sym (flat_map-append (canonical_row ts) r.rows q.rows))) (wrote_then r.written q.part.written);
+        written = subst (λ (l : List ℕ). Wrote a c s u l) (sym (append_assoc prior more q.part.front) ∙ ap (λ l. l ++ q.part.front) (sym (flat_map-append (canonical_row ts) r.rows q.rows))) (wrote_then r.written q.part.written);
       };
     }
 
@@ -356,8 +357,8 @@ says_write_fault limits ts n {a = a} {c = c} {s = s} {u = u} x y k r =
     ))
 
 -- what a fault of a call that takes a row or the end says of all bytes that were taken
-pub turn_says : (limits : Limits) (ts : List Shape) (n : ℕ) {a b c : Option (List ℕ)} {s t u : Option Bool} (f : CopyFault) (x y : List ℕ) → IsCopying limits ts n (Wrote a b s t) x → turn_fault limits ts n (Wrote b c t u) f y → fault_says limits ts f (Wrote a c s u) (x ++ y)
-turn_says limits ts n {a = a} {c = c} {s = s} {u = u} f x y k (inl stopped) = inr (inl (record {
+pub next_row_says : (limits : Limits) (ts : List Shape) (n : ℕ) {a b c : Option (List ℕ)} {s t u : Option Bool} (f : CopyFault) (x y : List ℕ) → IsCopying limits ts n (Wrote a b s t) x → next_row_fault limits ts n (Wrote b c t u) f y → fault_says limits ts f (Wrote a c s u) (x ++ y)
+next_row_says limits ts n {a = a} {c = c} {s = s} {u = u} f x y k (inl stopped) = inr (inl (record {
   front = x;
   behind = y;
   rows = k.rows;
@@ -367,7 +368,7 @@ turn_says limits ts n {a = a} {c = c} {s = s} {u = u} f x y k (inl stopped) = in
   cause = subst (λ (m : ℕ). row_cause limits ts m f y) (sym k.many) stopped.0;
   written = subst (λ (l : List ℕ). Wrote a c s u l) (append-nil (canonical_front ts k.rows)) (wrote_then k.written stopped.1);
 }))
-turn_says limits ts n {a = a} {c = c} {s = s} {u = u} f x y k (inr (is, broken)) =
+next_row_says limits ts n {a = a} {c = c} {s = s} {u = u} f x y k (inr (is, broken)) =
     subst (λ (e : CopyFault). fault_says limits ts e (Wrote a c s u) (x ++ y)) (sym is) (says_write_fault limits ts n x y k broken)
 
 -- what a fault of copying the rows that a source shows says of all bytes that were taken

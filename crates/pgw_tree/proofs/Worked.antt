@@ -4,10 +4,11 @@ use Rattle.std.specs.Str.{IsUtf8}
 use lib.Utf8.{encode}
 use Rattle.pgw_wire.specs.Cell.{Cell}
 use Rattle.pgw_tree.specs.Tree.{Shape, Value, int4, text, nullable, null, number, string}
-use Rattle.pgw_tree.specs.Spells.{SpellsRow, canonical_cell}
+use Rattle.pgw_tree.specs.Spells.{SpellsRow}
+use Rattle.pgw_tree.specs.Canonical.{canonical_cell, canonical_stream}
 use Rattle.pgw_copy.specs.Format.{IsHeader, IsField, IsRow}
-use Rattle.pgw_tree.specs.Stream.{IsFront, IsStream, IsWithin, default_limits}
-use Rattle.pgw_tree.specs.Canonical.{canonical_stream}
+use Rattle.pgw_tree.specs.Stream.{IsFront, IsStream, IsWithin}
+use Rattle.pgw_tree.specs.Limits.{default_limits}
 
 -- a header with no flag and no extension
 abbrev pub plain : List ℕ

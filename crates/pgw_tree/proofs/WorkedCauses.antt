@@ -5,15 +5,15 @@ use Rattle.pgw_wire.specs.declared.kind.Break.TheVariants.{Null, Size}
 use Rattle.pgw_copy.specs.Format.{magic, IsRow}
 use Rattle.pgw_tree.specs.declared.fault.CopyFault.TheVariants.{BadHeader, BadFlags, Truncated, BadFieldCount, UnexpectedEndOfRow, BadValue, TooLong, RowLimit, ReadFault, WriteFault, NoMemory}
 use Rattle.pgw_tree.specs.Tree.{Shape, int4, text}
-use Rattle.pgw_tree.specs.Columns.{IsBehind}
-use Rattle.pgw_tree.specs.Stream.{default_limits}
+use Rattle.pgw_tree.specs.Columns.{IsColumnAt}
+use Rattle.pgw_tree.specs.Limits.{default_limits}
 use Rattle.pgw_tree.specs.Causes.{row_cause, Stopped, Unwritten, in_header, in_row, in_end, fault_says}
 use Rattle.pgw_copy.proofs.Worked.{bad_magic, cut_in_field, high_flag, minus_two, empty_row}
 use Rattle.pgw_tree.proofs.Worked.{plain, columns, values, field_42, field_null, null_row, plain_is_header, front_42, one_within}
 use Rattle.pgw_tree.proofs.WorkedColumns.{null_breaks, three_bytes, long_text}
 
 -- Nothing is in front of the only column.
-at_first : (most : ℕ) (t : Shape) (cell : Cell) → IsBehind most (t ∷ []) (cell ∷ []) 0 t cell
+at_first : (most : ℕ) (t : Shape) (cell : Cell) → IsColumnAt most (t ∷ []) (cell ∷ []) 0 t cell
 at_first most t cell = record { before = []; after = []; spelling = []; rest = []; values = []; columns_are = refl; cells_are = refl; place = refl; spelled = tt; each = refl; fit = tt }
 
 -- At a fault of the header nothing was written: another magic, flags 00010000, and no byte at all, where the source ended

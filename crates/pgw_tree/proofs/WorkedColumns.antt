@@ -8,9 +8,10 @@ use Rattle.pgw_wire.specs.Cell.{Cell}
 use Rattle.pgw_wire.specs.declared.kind.Break.{Break}
 use Rattle.pgw_wire.specs.declared.kind.Break.TheVariants.{Null, Size, Utf8}
 use Rattle.pgw_tree.specs.Tree.{Shape, Value, int4, text, nullable, is_nullable, null, number, string}
-use Rattle.pgw_tree.specs.Spells.{SpellsRow, Fits}
+use Rattle.pgw_tree.specs.Spells.{SpellsRow}
+use Rattle.pgw_tree.specs.Canonical.{Fits}
 use Rattle.pgw_tree.specs.Breaks.{Breaks}
-use Rattle.pgw_tree.specs.Columns.{IsBehind, BreaksAt, IsLongAt}
+use Rattle.pgw_tree.specs.Columns.{IsColumnAt, BreaksAt, IsLongAt}
 use Rattle.pgw_tree.proofs.Worked.{spelled_42, letter_e_acute}
 
 -- A null breaks as null where the type allows none, and else in no kind.
@@ -45,7 +46,7 @@ whole_text kind h = h.1 letter_e_acute
 pub second_column : BreaksAt 4 (int4 ∷ text ∷ []) (Some (0 ∷ 0 ∷ 0 ∷ 42 ∷ []) ∷ Some (195 ∷ 40 ∷ []) ∷ []) 1 Utf8
 second_column = record { enough = lit≤ tt; t = text; cell = Some (195 ∷ 40 ∷ []); behind = behind; breaks = broken_text }
   where
-    behind : IsBehind 4 (int4 ∷ text ∷ []) (Some (0 ∷ 0 ∷ 0 ∷ 42 ∷ []) ∷ Some (195 ∷ 40 ∷ []) ∷ []) 1 text (Some (195 ∷ 40 ∷ []))
+    behind : IsColumnAt 4 (int4 ∷ text ∷ []) (Some (0 ∷ 0 ∷ 0 ∷ 42 ∷ []) ∷ Some (195 ∷ 40 ∷ []) ∷ []) 1 text (Some (195 ∷ 40 ∷ []))
     behind = record {
       before = int4 ∷ [];
       after = [];

@@ -8,7 +8,8 @@ use Rattle.pgw_tree.specs.declared.fault.CopyFault.TheVariants.{BadHeader, BadFl
 use Rattle.pgw_tree.specs.Tree.{Shape, Value}
 use Rattle.pgw_tree.specs.Canonical.{canonical_row, canonical_front, canonical_stream}
 use Rattle.pgw_tree.specs.Columns.{BreaksAt, IsLongAt}
-use Rattle.pgw_tree.specs.Stream.{Limits, IsFront, IsWithin, IsStream, IsStreamOf}
+use Rattle.pgw_tree.specs.Stream.{IsFront, IsWithin, IsStream, IsStreamOf}
+use Rattle.pgw_tree.specs.Limits.{Limits}
 
 -- So many rows were copied: the bytes taken are a stream of them within the limits, and the canonical stream of any rows
 -- that these bytes spell was written.
@@ -28,8 +29,6 @@ IsCutRowAt limits before bytes = IsCutRow bytes × (2 ≤ length bytes → befor
 
 -- what a fault says of the bytes behind so many rows
 abbrev pub row_cause : Limits → List Shape → ℕ → CopyFault → List ℕ → Type 0
-row_cause limits columns before BadHeader bytes = ⊥
-row_cause limits columns before (BadFlags flags) bytes = ⊥
 row_cause limits columns before Truncated bytes = IsCutRowAt limits before bytes
 row_cause limits columns before (BadFieldCount count) bytes = IsBadCount count bytes
 row_cause limits columns before (UnexpectedEndOfRow row) bytes = (cells : List Cell) × IsRowAt limits before row cells bytes × (length cells < length columns)
@@ -37,8 +36,8 @@ row_cause limits columns before (BadValue row column kind) bytes = (cells : List
 row_cause limits columns before (TooLong row column) bytes = (cells : List Cell) × IsRowAt limits before row cells bytes × IsLongAt limits.field_max columns cells column
 row_cause limits columns before RowLimit bytes = (count : ℕ) × IsCount (Some count) bytes × (before ≡ limits.rows_max)
 row_cause limits columns before ReadFault bytes = IsCutRowAt limits before bytes
-row_cause limits columns before WriteFault bytes = ⊥
 row_cause limits columns before NoMemory bytes = (before < limits.rows_max) × (IsCutRow bytes ⊎ IsWholeRow bytes)
+row_cause limits columns before _ bytes = ⊥
 
 -- Behind a header and rows within the limits, whose canonical form was written, the bytes have the fault's cause.
 pub record Stopped (limits : Limits) (columns : List Shape) (fault : CopyFault) (Written : List ℕ → Type 0) (taken : List ℕ) : Type 0 where
@@ -52,11 +51,11 @@ pub record Stopped (limits : Limits) (columns : List Shape) (fault : CopyFault) 
   pub written : Written (canonical_front columns rows)
 
 -- This much was written, and then a front of what comes next, all of it where the sink failed to settle it.
-pub record PartWritten (must next : List ℕ) (Written : List ℕ → Type 0) : Type 0 where
+pub record PartWritten (before next : List ℕ) (Written : List ℕ → Type 0) : Type 0 where
   pub front : List ℕ
   pub rest : List ℕ
   pub is : next ≡ front ++ rest
-  pub written : Written (must ++ front)
+  pub written : Written (before ++ front)
 
 -- The sink failed: in the header, behind which nothing was read; in the last of the rows that were read; or in the end.
 pub data Unwritten (limits : Limits) (columns : List Shape) (Written : List ℕ → Type 0) (taken : List ℕ) : Type 0 where
@@ -69,14 +68,9 @@ abbrev pub header_cause : CopyFault → List ℕ → Type 0
 header_cause BadHeader bytes = IsBadHeader bytes
 header_cause (BadFlags flags) bytes = HasHighFlags flags bytes
 header_cause Truncated bytes = IsCutHeader bytes
-header_cause (BadFieldCount count) bytes = ⊥
-header_cause (UnexpectedEndOfRow row) bytes = ⊥
-header_cause (BadValue row column kind) bytes = ⊥
-header_cause (TooLong row column) bytes = ⊥
-header_cause RowLimit bytes = ⊥
 header_cause ReadFault bytes = IsCutHeader bytes
-header_cause WriteFault bytes = ⊥
 header_cause NoMemory bytes = bytes ≡ []
+header_cause _ bytes = ⊥
 
 -- What a fault says of all bytes that were taken, and of those that were written. A fault of the header comes before
 -- anything is written. Behind it the canonical form of the rows before was written; where the sink failed itself, the end of

@@ -3,11 +3,12 @@ use Rattle.std.specs.Prelude.{◌≡◌, ◌≤◌, ℕ, List, ◌∷◌, ◌++�
 use Rattle.pgw_wire.specs.Cell.{Cell}
 use Rattle.pgw_wire.specs.declared.kind.Break.{Break}
 use Rattle.pgw_tree.specs.Tree.{Shape, Value}
-use Rattle.pgw_tree.specs.Spells.{Spells, SpellsRow, Fits, FitsRow}
+use Rattle.pgw_tree.specs.Spells.{Spells, SpellsRow}
+use Rattle.pgw_tree.specs.Canonical.{Fits, FitsRow}
 use Rattle.pgw_tree.specs.Breaks.{Breaks}
 
 -- The columns in front of one, whose cells spell values that fit, and that column with its cell.
-pub record IsBehind (most : ℕ) (columns : List Shape) (cells : List Cell) (column : ℕ) (t : Shape) (cell : Cell) : Type 0 where
+pub record IsColumnAt (most : ℕ) (columns : List Shape) (cells : List Cell) (column : ℕ) (t : Shape) (cell : Cell) : Type 0 where
   pub before : List Shape
   pub after : List Shape
   pub spelling : List Cell
@@ -25,7 +26,7 @@ pub record BreaksAt (most : ℕ) (columns : List Shape) (cells : List Cell) (col
   pub enough : length columns ≤ length cells
   pub t : Shape
   pub cell : Cell
-  pub behind : IsBehind most columns cells column t cell
+  pub behind : IsColumnAt most columns cells column t cell
   pub breaks : Breaks t kind cell
 
 -- Of a row with a cell for each column, this column's spells a value that is too long, and those before fit.
@@ -34,6 +35,6 @@ pub record IsLongAt (most : ℕ) (columns : List Shape) (cells : List Cell) (col
   pub t : Shape
   pub cell : Cell
   pub value : Value
-  pub behind : IsBehind most columns cells column t cell
+  pub behind : IsColumnAt most columns cells column t cell
   pub spells : Spells t cell value
   pub long : Fits most t value → ⊥

@@ -4,9 +4,9 @@ pub mod Canonical
 pub mod Spells
 pub mod Stream
 pub mod Tree
-pub mod Handed
+pub mod Limits
 pub mod Causes
-pub mod Turns
+pub mod Copying
 pub mod Runs
-pub mod Faults
+pub mod ReadErrors
 pub mod Plain

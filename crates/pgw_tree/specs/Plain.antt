@@ -3,16 +3,16 @@ use Rattle.std.specs.Prelude.{◌≡◌, ℕ, ◌≤◌, ◌++◌, List, [], ◌
 use Rattle.pgw_wire.specs.Cell.{frame}
 use Rattle.pgw_copy.specs.Format.{IsField}
 use Rattle.pgw_tree.specs.Tree.{Shape, Value}
-use Rattle.pgw_tree.specs.Spells.{SpellsPiece, Spells, Fits, canonical_cell}
-use Rattle.pgw_tree.specs.Canonical.{canonical_row}
-use Rattle.pgw_tree.specs.Turns.{IsValuesRow}
+use Rattle.pgw_tree.specs.Spells.{SpellsPiece, Spells}
+use Rattle.pgw_tree.specs.Canonical.{Fits, canonical_cell, canonical_row}
+use Rattle.pgw_tree.specs.Copying.{IsValuesRow}
 
 -- Bytes are the field of a piece, which spells a value of the type and has at most so many bytes, and the rest.
 pub record IsPlainPieceBefore (most : ℕ) (t : Shape) (bytes rest : List ℕ) : Type 0 where
   pub piece : List ℕ
   pub value : Value
   pub spells : SpellsPiece t piece value
-  pub long : length piece ≤ most
+  pub fits : length piece ≤ most
   pub is : bytes ≡ frame (Some piece) ++ rest
 
 -- the canonical field of a value of the type, which fits
@@ -23,7 +23,7 @@ pub record IsPlainField (most : ℕ) (t : Shape) (bytes : List ℕ) : Type 0 whe
   pub field : IsField (canonical_cell t value) bytes
   pub is : bytes ≡ frame (canonical_cell t value)
 
--- the canonical row of these values, which fit
+-- a row that spells these values, which fit, and is their canonical row
 pub record IsPlainRow (most : ℕ) (columns : List Shape) (bytes : List ℕ) (values : List Value) : Type 0 where
   pub row : IsValuesRow most columns bytes values
   pub is : bytes ≡ canonical_row columns values

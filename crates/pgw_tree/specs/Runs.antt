@@ -4,14 +4,15 @@ use Rattle.std.specs.List.{AllByRecursion, flat_map}
 use Rattle.pgw_copy.specs.Format.{AreFields, trailer}
 use Rattle.pgw_wire.specs.Cell.{Cell, frame}
 use Rattle.pgw_tree.specs.Tree.{Shape, Value}
-use Rattle.pgw_tree.specs.Spells.{SpellsRow, FitsRow}
-use Rattle.pgw_tree.specs.Canonical.{canonical_cells, canonical_row}
-use Rattle.pgw_tree.specs.Stream.{AreRows, Limits}
+use Rattle.pgw_tree.specs.Spells.{SpellsRow}
+use Rattle.pgw_tree.specs.Canonical.{FitsRow, canonical_cells, canonical_row}
+use Rattle.pgw_tree.specs.Stream.{AreRows}
+use Rattle.pgw_tree.specs.Limits.{Limits}
 use Rattle.pgw_tree.specs.Plain.{ArePlainRows}
 use Rattle.pgw_tree.specs.Causes.{PartWritten, row_cause}
 use Rattle.pgw_tree.specs.declared.fault.CopyFault.{CopyFault}
 use Rattle.pgw_tree.specs.declared.fault.CopyFault.TheVariants.{WriteFault}
-use Rattle.pgw_tree.specs.Turns.{IsValuesRow}
+use Rattle.pgw_tree.specs.Copying.{IsValuesRow}
 use Rattle.pgw_tree.specs.declared.shown.Copied.{Copied}
 use Rattle.pgw_tree.specs.declared.shown.Copied.TheVariants.{Whole, Broken}
 
@@ -78,13 +79,13 @@ pub record IsBrokenRun (limits : Limits) (columns : List Shape) (before : ℕ) (
   pub part : PartWritten (flat_map (canonical_row columns) rows) (canonical_row columns last) Written
 
 -- Of a call that takes a row or the end, behind so many rows: a row that was copied, or the end, at which nothing was written.
-abbrev pub IsTurn : Limits → List Shape → ℕ → (List ℕ → Type 0) → Bool → List ℕ → Type 0
-IsTurn limits columns before Written true bytes = IsRun limits columns before (before + 1) Written bytes
-IsTurn limits columns before Written false bytes = (bytes ≡ trailer) × Written []
+abbrev pub IsNextRow : Limits → List Shape → ℕ → (List ℕ → Type 0) → Bool → List ℕ → Type 0
+IsNextRow limits columns before Written true bytes = IsRun limits columns before (before + 1) Written bytes
+IsNextRow limits columns before Written false bytes = (bytes ≡ trailer) × Written []
 
--- what a fault of that call says: its cause, at which nothing was written, or that the sink failed in the row
-abbrev pub turn_fault : Limits → List Shape → ℕ → (List ℕ → Type 0) → CopyFault → List ℕ → Type 0
-turn_fault limits columns before Written fault bytes = (row_cause limits columns before fault bytes × Written []) ⊎ ((fault ≡ WriteFault) × IsBrokenRun limits columns before Written bytes)
+-- what a fault of that call says: its cause, at which nothing was written; or that the sink failed in a row
+abbrev pub next_row_fault : Limits → List Shape → ℕ → (List ℕ → Type 0) → CopyFault → List ℕ → Type 0
+next_row_fault limits columns before Written fault bytes = (row_cause limits columns before fault bytes × Written []) ⊎ ((fault ≡ WriteFault) × IsBrokenRun limits columns before Written bytes)
 
 abbrev pub length_of : Copied → ℕ
 length_of (Whole rows len) = len

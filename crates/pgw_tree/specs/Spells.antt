@@ -1,5 +1,5 @@
--- Which values the cells of a row spell, by the types of the columns, and the one cell that a value is written as.
-use Rattle.std.specs.Prelude.{◌≡◌, ℕ, ℤ, ◌≤◌, true, List, [], ◌∷◌, length, None, Some, FitsSigned}
+-- Which values the cells of a row spell, by the types of the columns.
+use Rattle.std.specs.Prelude.{◌≡◌, ℕ, ℤ, true, List, [], ◌∷◌, None, Some, FitsSigned}
 use Rattle.std.specs.Int.{w32, to_be_bytes, cast_unsigned}
 use Rattle.std.specs.Str.{IsUtf8}
 use Rattle.pgw_wire.specs.Cell.{Cell}
@@ -34,44 +34,3 @@ SpellsRow [] cells (v ∷ vs) = ⊥
 SpellsRow (t ∷ ts) [] vs = ⊥
 SpellsRow (t ∷ ts) (c ∷ cs) [] = ⊥
 SpellsRow (t ∷ ts) (c ∷ cs) (v ∷ vs) = Spells t c v × SpellsRow ts cs vs
-
-abbrev pub int4_bytes : Value → List ℕ
-int4_bytes (number n) = to_be_bytes w32 (cast_unsigned w32 n)
-int4_bytes null = []
-int4_bytes (string s) = []
-
-abbrev pub text_bytes : Value → List ℕ
-text_bytes (string s) = s
-text_bytes null = []
-text_bytes (number n) = []
-
-abbrev pub canonical_piece : Shape → Value → List ℕ
-canonical_piece int4 v = int4_bytes v
-canonical_piece text v = text_bytes v
-canonical_piece (nullable t) v = canonical_piece t v
-
-abbrev pub unless_null : Value → List ℕ → Cell
-unless_null null piece = None
-unless_null (number n) piece = Some piece
-unless_null (string s) piece = Some piece
-
--- The one cell that a value of the type is written as.
-abbrev pub canonical_cell : Shape → Value → Cell
-canonical_cell t v = unless_null v (canonical_piece t v)
-
--- how many bytes a cell has, 0 for a null
-abbrev pub size_of : Cell → ℕ
-size_of None = 0
-size_of (Some p) = length p
-
-abbrev pub canonical_size : Shape → Value → ℕ
-canonical_size t v = size_of (canonical_cell t v)
-
--- The value's canonical cell has at most this many bytes.
-abbrev pub Fits : ℕ → Shape → Value → Type 0
-Fits most t v = canonical_size t v ≤ most
-
-abbrev pub FitsRow : ℕ → List Shape → List Value → Type 0
-FitsRow most (t ∷ ts) (v ∷ vs) = Fits most t v × FitsRow most ts vs
-FitsRow most [] vs = Unit {0}
-FitsRow most (t ∷ ts) [] = Unit {0}

@@ -1,10 +1,11 @@
--- Streams of rows of values, and the limits within which they are copied.
-use Rattle.std.specs.Prelude.{◌≡◌, ℕ, ◌≤◌, List, [], ◌∷◌, ◌++◌, length, refl}
-use Rattle.std.specs.Coded.{Coded, code_by, coded×, coded_ℕ}
+-- Streams of rows of values, and those within limits.
+use Rattle.std.specs.Prelude.{◌≡◌, ℕ, ◌≤◌, List, [], ◌∷◌, ◌++◌, length}
 use Rattle.std.specs.List.{AllByRecursion}
 use Rattle.pgw_wire.specs.Cell.{Cell}
 use Rattle.pgw_tree.specs.Tree.{Shape, Value}
-use Rattle.pgw_tree.specs.Spells.{SpellsRow, FitsRow}
+use Rattle.pgw_tree.specs.Spells.{SpellsRow}
+use Rattle.pgw_tree.specs.Canonical.{FitsRow}
+use Rattle.pgw_tree.specs.Limits.{Limits}
 use Rattle.pgw_copy.specs.Format.{IsHeader, IsRow, trailer}
 
 -- rows, one behind the other, whose first cells spell these values
@@ -24,17 +25,6 @@ pub record IsStream (columns : List Shape) (bytes : List ℕ) (rows : List (List
   pub front : List ℕ
   pub begins : IsFront columns front rows
   pub is : bytes ≡ front ++ trailer
-
--- how many rows are copied at most, and of how many bytes a canonical cell is at most
-pub record Limits : Type 0 where
-  pub rows_max : ℕ
-  pub field_max : ℕ
-
-abbrev pub limits_code : Coded Limits
-limits_code = code_by (ℕ × ℕ) (coded× coded_ℕ coded_ℕ) (λ l. (l.rows_max, l.field_max)) (λ p. record { rows_max = p.0; field_max = p.1 }) (λ _. refl)
-
-abbrev pub default_limits : Limits
-default_limits = record { rows_max = 18446744073709551615; field_max = 2147483647 }
 
 pub record IsWithin (limits : Limits) (columns : List Shape) (rows : List (List Value)) : Type 0 where
   pub few : length rows ≤ limits.rows_max

@@ -1,6 +1,7 @@
 -- Column types and their values as plain data, without how a program keeps them.
 use Rattle.std.specs.Prelude.{ℕ, ℤ, Bool, true, false, List, map}
 use Rattle.pgw_tree.specs.declared.types.FirstType.{FirstType}
+use Rattle.pgw_tree.specs.declared.list.FirstList.{FirstList}
 use Rattle.pgw_tree.specs.declared.types.FirstType.TheVariants.{Int4, Int4Null, Text, TextNull}
 
 pub data Shape : Type 0 where
@@ -27,3 +28,7 @@ shape TextNull = nullable text
 
 abbrev pub shapes : List FirstType → List Shape
 shapes ts = map shape ts
+
+-- the types that a list of columns holds
+abbrev pub columns_of : FirstList → List FirstType
+columns_of l = l.columns.items

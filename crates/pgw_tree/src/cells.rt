@@ -5,10 +5,10 @@ ghost use Rattle.std.specs.Io.{StartsWith};
 ghost use Rattle.pgw_wire.specs.Cell.{Cell, cell_of, frame};
 ghost use Rattle.pgw_copy.specs.State.{cells_of};
 ghost use Rattle.pgw_tree.specs.Tree.{Value, shape, shapes, int4, text};
-ghost use Rattle.pgw_tree.specs.Spells.{SpellsPiece, Spells, SpellsRow, Fits, FitsRow, canonical_cell};
+ghost use Rattle.pgw_tree.specs.Spells.{SpellsPiece, Spells, SpellsRow};
+ghost use Rattle.pgw_tree.specs.Canonical.{Fits, FitsRow, canonical_cell, canonical_cells};
 ghost use Rattle.pgw_tree.specs.Breaks.{BreaksPiece, Breaks};
 ghost use Rattle.pgw_tree.specs.Columns.{BreaksAt, IsLongAt};
-ghost use Rattle.pgw_tree.specs.Canonical.{canonical_cells};
 
 use crate::FirstType;
 use pgw_copy::RawRow;
@@ -73,7 +73,7 @@ fn break_of(column: FirstType, cell: RawCell<'_>) -> Option<Break>
 
 /// Why the field of a cell was not appended.
 #[derive(Drop)]
-pub(crate) enum CellFault {
+pub(crate) enum PushFault {
     /// The cell breaks in this kind.
     Break(Break),
     /// The value's canonical bytes are more than the limit.
@@ -82,13 +82,13 @@ pub(crate) enum CellFault {
     NoMemory,
 }
 
-impl From<NoMemoryLeft> for CellFault {
-    ghost use Rattle.pgw_tree.specs.declared.cells.CellFault.TheVariants.{NoMemory as no_memory};
+impl From<NoMemoryLeft> for PushFault {
+    ghost use Rattle.pgw_tree.specs.declared.cells.PushFault.TheVariants.{NoMemory as no_memory};
 
     ghost from_gives = { λ _ e. e ≡ no_memory };
 
-    fn from(_: NoMemoryLeft) -> CellFault {
-        CellFault::NoMemory
+    fn from(_: NoMemoryLeft) -> PushFault {
+        PushFault::NoMemory
     }
 }
 
@@ -99,22 +99,22 @@ pub(crate) fn push_field(
     cell: RawCell<'_>,
     field_max: u32,
     out: &mut ByteBuffer,
-) -> Result<(), CellFault>
+) -> Result<(), PushFault>
     ensures ok { OnOk result ((v : Value) × Spells (shape column) (cell_of cell.entry) v × Fits field_max (shape column) v
         × (out.new.bytes ≡ out.old.bytes ++ frame (canonical_cell (shape column) v))) }
-    ensures broken { (kind : _) → result ≡ Err (CellFault.Break kind) → Breaks (shape column) kind (cell_of cell.entry) }
-    ensures long { result ≡ Err CellFault.TooLong
+    ensures broken { (kind : _) → result ≡ Err (PushFault.Break kind) → Breaks (shape column) kind (cell_of cell.entry) }
+    ensures long { result ≡ Err PushFault.TooLong
         → (v : Value) × Spells (shape column) (cell_of cell.entry) v × (Fits field_max (shape column) v → ⊥) }
     ensures kept { StartsWith out.new.bytes out.old.bytes }
 {
     if let Some(kind) = break_of(column, cell) {
-        return Err(CellFault::Break(kind));
+        return Err(PushFault::Break(kind));
     }
     match cell {
         RawCell::Null => out.push_all(&NULL)?,
         RawCell::Piece(piece) => {
             if piece.len() > field_max as usize {
-                return Err(CellFault::TooLong);
+                return Err(PushFault::TooLong);
             }
             out.push_all(&(piece.len() as u32).to_be_bytes())?;
             out.push_all(piece)?;
@@ -124,7 +124,7 @@ pub(crate) fn push_field(
 }
 
 /// Why the canonical form of a row was not made or not written.
-pub(crate) enum RowFault {
+pub(crate) enum SendFault {
     /// It has fewer fields than there are columns.
     TooFew,
     /// The cell of this column breaks in this kind.
@@ -144,43 +144,43 @@ pub(crate) fn push_columns(
     row: &RawRow<'_>,
     field_max: u32,
     out: &mut ByteBuffer,
-) -> Result<(), RowFault>
+) -> Result<(), SendFault>
     ensures ok { OnOk result ((values : List Value) × SpellsRow (shapes columns.now) (cells_of row.now) values
         × FitsRow field_max (shapes columns.now) values
         × (out.new.bytes ≡ out.old.bytes ++ flat_map frame (canonical_cells (shapes columns.now) values))) }
-    ensures too_few { result ≡ Err RowFault.TooFew → length (cells_of row.now) < length columns.now }
-    ensures bad_value { (column : _) (kind : _) → result ≡ Err (RowFault.BadValue column kind)
+    ensures too_few { result ≡ Err SendFault.TooFew → length (cells_of row.now) < length columns.now }
+    ensures bad_value { (column : _) (kind : _) → result ≡ Err (SendFault.BadValue column kind)
         → BreaksAt field_max (shapes columns.now) (cells_of row.now) column kind }
-    ensures too_long { (column : _) → result ≡ Err (RowFault.TooLong column)
+    ensures too_long { (column : _) → result ≡ Err (SendFault.TooLong column)
         → IsLongAt field_max (shapes columns.now) (cells_of row.now) column }
-    ensures no_write { result ≢ Err RowFault.WriteFault }
+    ensures no_write { result ≢ Err SendFault.WriteFault }
 {
     if row.len() < columns.len() {
-        return Err(RowFault::TooFew);
+        return Err(SendFault::TooFew);
     }
     for (place, column) in columns.iter().enumerate() {
         let cell = row.get(place).unwrap();
         match push_field(*column, cell, field_max, out) {
             Ok(()) => {}
-            Err(CellFault::Break(kind)) => {
-                return Err(RowFault::BadValue {
+            Err(PushFault::Break(kind)) => {
+                return Err(SendFault::BadValue {
                     column: place,
                     kind,
                 });
             }
-            Err(CellFault::TooLong) => return Err(RowFault::TooLong { column: place }),
-            Err(CellFault::NoMemory) => return Err(RowFault::NoMemory),
+            Err(PushFault::TooLong) => return Err(SendFault::TooLong { column: place }),
+            Err(PushFault::NoMemory) => return Err(SendFault::NoMemory),
         }
     }
     Ok(())
 }
 
-impl From<NoMemoryLeft> for RowFault {
-    ghost use Rattle.pgw_tree.specs.declared.cells.RowFault.TheVariants.{NoMemory as no_memory};
+impl From<NoMemoryLeft> for SendFault {
+    ghost use Rattle.pgw_tree.specs.declared.cells.SendFault.TheVariants.{NoMemory as no_memory};
 
     ghost from_gives = { λ _ e. e ≡ no_memory };
 
-    fn from(_: NoMemoryLeft) -> RowFault {
-        RowFault::NoMemory
+    fn from(_: NoMemoryLeft) -> SendFault {
+        SendFault::NoMemory
     }
 }

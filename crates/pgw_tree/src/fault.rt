@@ -53,7 +53,7 @@ pub enum CopyFault {
 }
 
 impl From<CopyReadError> for CopyFault {
-    ghost use Rattle.pgw_tree.specs.Faults.{fault_of};
+    ghost use Rattle.pgw_tree.specs.ReadErrors.{fault_of};
 
     ghost from_gives = { λ e f. f ≡ fault_of e };
 

@@ -6,13 +6,13 @@ mod fault;
 mod fields;
 mod limits;
 mod list;
+mod next_row;
 mod plain;
 mod recopy;
 mod respell;
 mod shown;
 #[cfg(test)]
 mod tests;
-mod turn;
 mod types;
 
 pub use fault::CopyFault;

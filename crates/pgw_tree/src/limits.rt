@@ -14,7 +14,7 @@ pub struct Limits {
 
 impl Model for Limits {
     ghost use Rattle.std.specs.Prelude.{◌≤◌};
-    ghost use Rattle.pgw_tree.specs.Stream.{Limits as Bounds, limits_code};
+    ghost use Rattle.pgw_tree.specs.Limits.{Limits as Bounds, limits_code};
 
     ghost Value = { Bounds };
 

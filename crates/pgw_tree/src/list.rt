@@ -1,6 +1,6 @@
 ghost use Rattle.std.specs.Prelude.{◌≡◌, [], ◌∷◌, ◌++◌, length, option_copied, OnOk, OnErr};
 ghost use Rattle.std.specs.List.{slice_get};
-ghost use Rattle.pgw_tree.specs.Handed.{columns_of};
+ghost use Rattle.pgw_tree.specs.Tree.{columns_of};
 
 use crate::FirstType;
 use pgw_wire::NoMemory;

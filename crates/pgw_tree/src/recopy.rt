@@ -5,8 +5,8 @@ ghost use Rattle.pgw_tree.specs.Tree.{shapes};
 ghost use Rattle.pgw_tree.specs.Stream.{IsValidStream};
 ghost use Rattle.pgw_tree.specs.Causes.{IsCopied, fault_says};
 
+use crate::next_row::copy_row;
 use crate::shown::copy_shown;
-use crate::turn::copy_row;
 use crate::{CopyFault, FirstType, Limits};
 use pgw_copy::{CopyReader, CopyWriter};
 use pgw_wire::{Sink, Source};

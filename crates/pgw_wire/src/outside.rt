@@ -35,9 +35,9 @@ pub trait Source {
     fn faults(&self) -> u64
         ensures { result ≡ fault_count self.now };
 
-    /// Shows the taker bytes that stand ready in front of what is left, and takes as many of them as it answers. A source
-    /// with no such bytes answers false, and then nothing changes. `Failed` comes only where the count of faults rises, and
-    /// leaves all as it was.
+    /// Shows the taker bytes that stand ready in front of what is left, and takes as many of them as it answers. They may be
+    /// fewer than are left, or none. A source that has none at hand may answer false, as the one here does, and then what is
+    /// left, the taker and `to` are as before. `Failed` comes only where the count of faults rises, and leaves these too.
     fn show<K, T: Taker<K>>(&mut self, taker: &mut T, to: &mut K) -> Result<bool, Failed>
         ensures shown { result ≡ Ok true → (ready : List ℕ) × (n : ℕ)
             × TookReady (left self.old) (left self.new) ready n

@@ -9,7 +9,8 @@ use Rattle.pgw_wire.proofs.Taking.{took_from, ended}
 use Rattle.pgw_tree.specs.declared.fault.CopyFault.{CopyFault}
 use Rattle.pgw_tree.specs.declared.fault.CopyFault.TheVariants.{Truncated, ReadFault, WriteFault, NoMemory}
 use Rattle.pgw_tree.specs.Tree.{Shape}
-use Rattle.pgw_tree.specs.Stream.{Limits, IsValidStream}
+use Rattle.pgw_tree.specs.Stream.{IsValidStream}
+use Rattle.pgw_tree.specs.Limits.{Limits}
 use Rattle.pgw_tree.specs.Causes.{fault_says}
 use Rattle.pgw_tree.proofs.Excluded.{excluded}
 use Rattle.pgcopy.specs.declared.report.Status.{Status}

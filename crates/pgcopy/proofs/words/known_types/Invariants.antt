@@ -1,7 +1,6 @@
 use Rattle.std.proofs.Common.{◌≡◌, ◌++◌, map, string_bytes, drop}
 use Rattle.std.specs.List.{filter_map}
-use Rattle.pgw_tree.specs.Tree.{shapes}
-use Rattle.pgw_tree.specs.Handed.{columns_of}
+use Rattle.pgw_tree.specs.Tree.{shapes, columns_of}
 use Rattle.pgcopy.specs.Words.{type_of}
 use Rattle.pgcopy.proofs.words.known_types.Given as goal
 

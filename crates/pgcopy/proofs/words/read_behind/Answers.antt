@@ -1,6 +1,6 @@
 use Rattle.std.proofs.Common.{arith, rules, ◌≤◌, map, string_bytes, take}
 use Rattle.std.proofs.lemmas.List.{length-map, length-take}
-use Rattle.pgcopy.proofs.SeenWords.{types_few}
+use Rattle.pgcopy.proofs.ReadingWords.{types_few}
 use Rattle.pgcopy.proofs.words.read_behind.Goals as goal
 
 pub read_word-requires : goal.read_word-requires

@@ -1,11 +1,11 @@
 use Rattle.std.proofs.Common.{◌≡◌, [], map, string_bytes, take, drop}
 use Rattle.pgcopy.specs.Words.{first_fault}
-use Rattle.pgcopy.specs.Seen.{HasSeen}
+use Rattle.pgcopy.specs.WordsRead.{AreRead}
 use Rattle.pgcopy.proofs.words.read_behind.Given as goal
 
 -- the first fault behind what was read is that of all
 abbrev pub invariant-loop-k : goal.invariant-loop-k
 invariant-loop-k l = record {
   left : first_fault (map string_bytes (take l.k l.words)) (map string_bytes (drop l.k l.words)) ≡ first_fault [] (map string_bytes l.words);
-  seen : HasSeen l.seen (map string_bytes (take l.k l.words));
+  seen : AreRead l.seen (map string_bytes (take l.k l.words));
 }

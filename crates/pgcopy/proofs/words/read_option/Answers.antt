@@ -1,6 +1,6 @@
 use Rattle.std.proofs.Common.{sym, ap, ◌∙◌, option_map}
 use Rattle.pgcopy.specs.Words.{number_of}
-use Rattle.pgcopy.proofs.SeenWords.{rows_seen, field_seen}
+use Rattle.pgcopy.proofs.ReadingWords.{rows_seen, field_seen}
 use Rattle.pgcopy.proofs.words.read_option.Goals as goal
 
 pub returns-in_ok-rows : goal.returns-in_ok-rows

@@ -1,5 +1,5 @@
 use Rattle.std.proofs.Common.{sym, ◌∙◌}
-use Rattle.pgcopy.proofs.SeenWords.{type_named, type_seen}
+use Rattle.pgcopy.proofs.ReadingWords.{type_named, type_seen}
 use Rattle.pgcopy.proofs.words.read_word.Goals as goal
 
 pub returns-then-is_some : goal.returns-then-is_some

@@ -6,11 +6,11 @@ use Rattle.pgw_wire.specs.declared.kind.Break.{Break}
 use Rattle.pgw_copy.specs.State.{cells_of}
 use Rattle.pgw_tree.specs.declared.types.FirstType.TheVariants.{Int4}
 use Rattle.pgw_tree.specs.Tree.{Shape, shape, shapes}
-use Rattle.pgw_tree.specs.Spells.{SpellsRow, FitsRow}
+use Rattle.pgw_tree.specs.Spells.{SpellsRow}
+use Rattle.pgw_tree.specs.Canonical.{FitsRow, canonical_cells}
 use Rattle.pgw_tree.specs.Breaks.{Breaks}
-use Rattle.pgw_tree.specs.Canonical.{canonical_cells}
 use Rattle.pgw_tree.specs.Columns.{BreaksAt, IsLongAt}
-use Rattle.pgw_tree.proofs.Prefixes.{spells_more, fits_more, fields_more, shapes_more, cells_more, as_many, behind_at}
+use Rattle.pgw_tree.proofs.Prefixes.{spells_more, fits_more, fields_more, shapes_more, cells_more, as_many, column_at}
 use Rattle.pgw_tree.proofs.RowFields.{spells-append}
 use Rattle.pgw_tree.proofs.cells.push_columns.Goals as goal
 
@@ -34,7 +34,7 @@ returns-in-Err-Break-clause-bad_value c = λ column kind e.
       enough = omega (arith, length-map ts shape, c.len.ensures, c.if-len-columns.false);
       t = t;
       cell = cell;
-      behind = behind_at c.args.field_max ts cells i cell inv.values (omega arith) at inv.spelled inv.fit;
+      behind = column_at c.args.field_max ts cells i cell inv.values (omega arith) at inv.spelled inv.fit;
       breaks = subst (λ (k : Break). Breaks t k cell) same_kind broken;
     })
 
@@ -53,7 +53,7 @@ returns-in-Err-TooLong-clause-too_long c = λ column e.
       t = shape (get_or ts i Int4);
       cell = cell;
       value = long.0;
-      behind = behind_at c.args.field_max ts cells i cell inv.values (omega arith) at inv.spelled inv.fit;
+      behind = column_at c.args.field_max ts cells i cell inv.values (omega arith) at inv.spelled inv.fit;
       spells = long.1;
       long = long.2;
     })

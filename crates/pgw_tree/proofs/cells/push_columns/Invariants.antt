@@ -3,8 +3,8 @@ use Rattle.std.specs.List.{flat_map}
 use Rattle.pgw_wire.specs.Cell.{frame}
 use Rattle.pgw_copy.specs.State.{cells_of}
 use Rattle.pgw_tree.specs.Tree.{Value, shapes}
-use Rattle.pgw_tree.specs.Spells.{SpellsRow, FitsRow}
-use Rattle.pgw_tree.specs.Canonical.{canonical_cells}
+use Rattle.pgw_tree.specs.Spells.{SpellsRow}
+use Rattle.pgw_tree.specs.Canonical.{FitsRow, canonical_cells}
 use Rattle.pgw_tree.proofs.cells.push_columns.Given as goal
 
 -- The columns so far spell these values, which fit, and their canonical fields were appended.

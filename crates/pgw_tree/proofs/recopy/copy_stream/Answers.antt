@@ -6,12 +6,12 @@ use Rattle.pgw_copy.specs.Format.{trailer}
 use Rattle.pgw_tree.specs.declared.fault.CopyFault.TheVariants.{WriteFault}
 use Rattle.pgw_tree.specs.Tree.{shapes}
 use Rattle.pgw_tree.specs.Canonical.{canonical_front}
-use Rattle.pgw_tree.specs.Faults.{fault_of}
+use Rattle.pgw_tree.specs.ReadErrors.{fault_of}
 use Rattle.pgw_tree.specs.Causes.{fault_says, in_end}
 use Rattle.pgw_tree.proofs.Parts.{fault_exit}
 use Rattle.pgw_tree.proofs.Copies.{none_copied, part_written, header_says, says_at, told_after}
 use Rattle.pgw_tree.proofs.Finish.{copied_rows}
-use Rattle.pgw_tree.proofs.Runs.{run_copied, end_copied, shown_says, turn_says}
+use Rattle.pgw_tree.proofs.Runs.{run_copied, end_copied, shown_says, next_row_says}
 use Rattle.pgw_tree.proofs.recopy.copy_stream.Goals as goal
 
 pub returns-in_err-reader-clause-fault : goal.returns-in_err-reader-clause-fault
@@ -54,7 +54,7 @@ returns-in_err-copy_row-clause-fault g c =
     let wrote = Wrote (g.K.Sink.gained c.args.sink.now) (g.K.Sink.gained c.copy_row.new.sink) (g.K.Sink.settled c.args.sink.now) (g.K.Sink.settled c.copy_row.new.sink) in
     let e = c.in_err-copy_row.field-0.0 in
     says_at _ _ _ e (λ f. fault_says limits ts f wrote) (fault_exit c.from_residual-in_err-copy_row.result _ c.from_residual-in_err-copy_row.ensures.1)
-    (took_then c.loop-writer.invariant.took (c.in_err-copy_row.ensures.takes.err e refl) (λ x y k h. turn_says limits ts c.loop-writer.rows e x y k h))
+    (took_then c.loop-writer.invariant.took (c.in_err-copy_row.ensures.takes.err e refl) (λ x y k h. next_row_says limits ts c.loop-writer.rows e x y k h))
 
 pub loop-writer-preserved : goal.loop-writer-preserved
 loop-writer-preserved g c =

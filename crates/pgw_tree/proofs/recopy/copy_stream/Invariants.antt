@@ -2,7 +2,7 @@ use Rattle.std.proofs.Common.{◌≡◌, ◌≤◌, ◌-◌}
 use Rattle.pgw_wire.specs.Outside.{Took, Wrote}
 use Rattle.pgw_copy.specs.State.{IsReady}
 use Rattle.pgw_tree.specs.Tree.{shapes}
-use Rattle.pgw_tree.specs.Turns.{IsCopying}
+use Rattle.pgw_tree.specs.Copying.{IsCopying}
 use Rattle.pgw_tree.proofs.recopy.copy_stream.Given as goal
 
 abbrev pub invariant-loop-writer : goal.invariant-loop-writer

@@ -2,7 +2,7 @@ use Rattle.std.proofs.Common.{◌++◌, [], List, take, get_or, refl, sym, ap, �
 use Rattle.pgw_wire.specs.Cell.{cell_of, frame}
 use Rattle.pgw_tree.specs.declared.types.FirstType.TheVariants.{Int4}
 use Rattle.pgw_tree.specs.Tree.{Shape, shape, shapes}
-use Rattle.pgw_tree.specs.Spells.{canonical_cell}
+use Rattle.pgw_tree.specs.Canonical.{canonical_cell}
 use Rattle.pgw_tree.specs.Runs.{AreRespelledFields}
 use Rattle.pgw_tree.proofs.Prefixes.{shapes_more}
 use Rattle.pgw_tree.proofs.Respelled.{respelled_none, respelled_more}

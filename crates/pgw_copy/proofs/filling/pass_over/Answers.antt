@@ -2,7 +2,7 @@ use Rattle.std.proofs.Common.{rules, length, refl, ap, arith, length-append}
 use Rattle.std.proofs.lemmas.List.{length-take-le}
 use Rattle.pgw_wire.proofs.Taking.{took_then, took_weaker}
 use Rattle.pgw_copy.proofs.Reading.{exit, takes_later, takes_done, short_later}
-use Rattle.pgw_copy.proofs.source.pass_over.Goals as goal
+use Rattle.pgw_copy.proofs.filling.pass_over.Goals as goal
 
 pub returns-in_err-fill-clause-takes : goal.returns-in_err-fill-clause-takes
 returns-in_err-fill-clause-takes g c =

@@ -11,9 +11,9 @@ use Rattle.std.specs.Str.Parse.{digits_value}
 use Rattle.pgw_tree.specs.Tree.{Shape, shape}
 use Rattle.pgw_tree.specs.declared.types.FirstType.{FirstType}
 use Rattle.pgcopy.specs.declared.words.WordFault.TheVariants.{NotYet}
-use Rattle.pgcopy.specs.declared.words.Seen.{Seen}
-use Rattle.pgcopy.specs.Words.{type_of, behind, is_option, number_of, digits_in, option_fault, fault_of}
-use Rattle.pgcopy.specs.Seen.{HasSeen}
+use Rattle.pgcopy.specs.declared.words.WordsRead.{WordsRead}
+use Rattle.pgcopy.specs.Words.{type_of, behind, is_option, number_of, digits_in, option_fault, word_fault}
+use Rattle.pgcopy.specs.WordsRead.{AreRead}
 use Rattle.pgcopy.proofs.Options.{behind_is}
 
 digits_kept : (front word : List ℕ) (before : List (List ℕ)) → behind front word ≡ None → digits_in front (before ++ word ∷ []) ≡ digits_in front before
@@ -109,7 +109,7 @@ pub type_named : (word : List ℕ) (r : Option FirstType) → option_map shape r
 type_named word (Some t) e h = (shape t, sym e)
 type_named word None e h = cc
 
-pub rows_seen : (seen : Seen) (n : ℕ) (word digits : List ℕ) (before : List (List ℕ)) → HasSeen seen before → list_all is_option before ≡ true → behind (codes "rows=") word ≡ Some digits → Ok n ≡ number_of 18446744073709551615 digits (is_some seen.rows) → (option_fault before word ≡ None) × HasSeen (record seen { rows = Some n }) (before ++ word ∷ [])
+pub rows_seen : (seen : WordsRead) (n : ℕ) (word digits : List ℕ) (before : List (List ℕ)) → AreRead seen before → list_all is_option before ≡ true → behind (codes "rows=") word ≡ Some digits → Ok n ≡ number_of 18446744073709551615 digits (is_some seen.rows) → (option_fault before word ≡ None) × AreRead (record seen { rows = Some n }) (before ++ word ∷ [])
 rows_seen seen n word digits before h all is given =
     let e : word ≡ codes "rows=" ++ digits = behind_is (codes "rows=") word digits is in
     let again : is_some seen.rows ≡ is_some (digits_in (codes "rows=") before) = ap is_some h.rows ∙ is_some_map _ _ in
@@ -129,7 +129,7 @@ rows_seen seen n word digits before h all is given =
       },
     )
 
-pub field_seen : (seen : Seen) (n : ℕ) (word digits : List ℕ) (before : List (List ℕ)) → HasSeen seen before → list_all is_option before ≡ true → behind (codes "field=") word ≡ Some digits → Ok n ≡ number_of 2147483647 digits (is_some seen.field) → (option_fault before word ≡ None) × HasSeen (record seen { field = Some n }) (before ++ word ∷ [])
+pub field_seen : (seen : WordsRead) (n : ℕ) (word digits : List ℕ) (before : List (List ℕ)) → AreRead seen before → list_all is_option before ≡ true → behind (codes "field=") word ≡ Some digits → Ok n ≡ number_of 2147483647 digits (is_some seen.field) → (option_fault before word ≡ None) × AreRead (record seen { field = Some n }) (before ++ word ∷ [])
 field_seen seen n word digits before h all is given =
     let e : word ≡ codes "field=" ++ digits = behind_is (codes "field=") word digits is in
     let again : is_some seen.field ≡ is_some (digits_in (codes "field=") before) = ap is_some h.field ∙ is_some_map _ _ in
@@ -153,7 +153,7 @@ and_false : (b : Bool) → (b && false) ≡ false
 and_false true = refl
 and_false false = refl
 
-pub type_seen : (seen : Seen) (t : Shape) (word : List ℕ) (before : List (List ℕ)) → HasSeen seen before → type_of word ≡ Some t → (fault_of before word ≡ None) × HasSeen (record seen { types = seen.types + 1 }) (before ++ word ∷ [])
+pub type_seen : (seen : WordsRead) (t : Shape) (word : List ℕ) (before : List (List ℕ)) → AreRead seen before → type_of word ≡ Some t → (word_fault before word ≡ None) × AreRead (record seen { types = seen.types + 1 }) (before ++ word ∷ [])
 type_seen seen t word before h is =
     let plain = type_is_plain word t is in
     let option : is_option word ≡ false = rw (plain.0, plain.1, plain.2) refl in

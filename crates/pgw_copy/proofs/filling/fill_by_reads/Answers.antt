@@ -4,7 +4,7 @@ use Rattle.pgw_wire.proofs.Taking.{took_then, took_weaker, took_consumed, took_k
 use Rattle.pgw_copy.specs.declared.fault.CopyReadError.TheVariants.{Truncated, ReadFault}
 use Rattle.pgw_copy.proofs.Lists.{filled_more}
 use Rattle.pgw_copy.proofs.Reading.{takes_done, takes_error}
-use Rattle.pgw_copy.proofs.source.fill_by_reads.Goals as goal
+use Rattle.pgw_copy.proofs.filling.fill_by_reads.Goals as goal
 
 pub returns-in-Ok-eq0-clause-takes : goal.returns-in-Ok-eq0-clause-takes
 returns-in-Ok-eq0-clause-takes g c =

@@ -3,7 +3,7 @@ use Rattle.std.proofs.Math.ListN.{drop_of_length-le}
 use borrow.Rule.Slice.PartMut.{put_mid, post_of}
 use Rattle.pgw_wire.proofs.Taking.{took_consumed}
 use Rattle.pgw_copy.proofs.Reading.{takes_then, short_later}
-use Rattle.pgw_copy.proofs.source.fill.Goals as goal
+use Rattle.pgw_copy.proofs.filling.fill.Goals as goal
 
 -- what came first, and the rest of a buffer
 filled_rest : (n : ℕ) (xs ys : List ℕ) → n ≤ length xs → put_mid n (length xs - n) xs ys ≡ take n xs ++ ys

@@ -1,6 +1,6 @@
 use Rattle.std.proofs.Common.{◌≡◌, ◌≤◌, ◌+◌, length}
 use Rattle.pgw_wire.specs.Outside.{Took}
-use Rattle.pgw_copy.proofs.source.pass_over.Given as goal
+use Rattle.pgw_copy.proofs.filling.pass_over.Given as goal
 
 abbrev pub invariant-loop-left : goal.invariant-loop-left
 invariant-loop-left g l = record {

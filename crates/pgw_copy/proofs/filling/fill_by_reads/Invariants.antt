@@ -1,6 +1,6 @@
 use Rattle.std.proofs.Common.{◌≡◌, ◌≤◌, ◌-◌, length, take}
 use Rattle.pgw_wire.specs.Outside.{Took}
-use Rattle.pgw_copy.proofs.source.fill_by_reads.Given as goal
+use Rattle.pgw_copy.proofs.filling.fill_by_reads.Given as goal
 
 abbrev pub invariant-loop-filled : goal.invariant-loop-filled
 invariant-loop-filled g l = record {

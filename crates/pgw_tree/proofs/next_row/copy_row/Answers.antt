@@ -7,13 +7,13 @@ use Rattle.pgw_copy.specs.Format.{IsRow}
 use Rattle.pgw_copy.specs.State.{cells_of}
 use Rattle.pgw_copy.proofs.Reading.{row_of}
 use Rattle.pgw_tree.specs.declared.fault.CopyFault.TheVariants.{UnexpectedEndOfRow, BadValue, TooLong, RowLimit, WriteFault, NoMemory}
-use Rattle.pgw_tree.specs.declared.cells.RowFault.TheVariants.{TooFew as too_few, BadValue as bad_value, TooLong as too_long, NoMemory as no_memory}
+use Rattle.pgw_tree.specs.declared.cells.SendFault.TheVariants.{TooFew as too_few, BadValue as bad_value, TooLong as too_long, NoMemory as no_memory}
 use Rattle.pgw_tree.specs.Tree.{shape, shapes}
-use Rattle.pgw_tree.specs.Spells.{FitsRow}
+use Rattle.pgw_tree.specs.Canonical.{FitsRow}
 use Rattle.pgw_tree.specs.Columns.{BreaksAt, IsLongAt}
 use Rattle.pgw_tree.proofs.Parts.{fault_exit, said_at, wrote_still, part_done, part_error, part_first, part_later, count_cause, fields_cause, some_count, no_count}
 use Rattle.pgw_tree.proofs.Runs.{run_one, broken_one}
-use Rattle.pgw_tree.proofs.turn.copy_row.Goals as goal
+use Rattle.pgw_tree.proofs.next_row.copy_row.Goals as goal
 
 pub returns-in_err-next_count-clause-takes : goal.returns-in_err-next_count-clause-takes
 returns-in_err-next_count-clause-takes g c =

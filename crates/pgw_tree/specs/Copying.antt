@@ -7,9 +7,10 @@ use Rattle.pgw_copy.specs.Format.{IsRow}
 use Rattle.pgw_tree.specs.declared.fault.CopyFault.{CopyFault}
 use Rattle.pgw_tree.specs.declared.fault.CopyFault.TheVariants.{Truncated, ReadFault}
 use Rattle.pgw_tree.specs.Tree.{Shape, Value}
-use Rattle.pgw_tree.specs.Spells.{SpellsRow, FitsRow}
-use Rattle.pgw_tree.specs.Canonical.{canonical_front}
-use Rattle.pgw_tree.specs.Stream.{Limits, IsFront, IsWithin}
+use Rattle.pgw_tree.specs.Spells.{SpellsRow}
+use Rattle.pgw_tree.specs.Canonical.{FitsRow, canonical_front}
+use Rattle.pgw_tree.specs.Stream.{IsFront, IsWithin}
+use Rattle.pgw_tree.specs.Limits.{Limits}
 
 -- a row whose first cells spell these values, which fit
 pub record IsValuesRow (most : ℕ) (columns : List Shape) (bytes : List ℕ) (values : List Value) : Type 0 where

@@ -5,7 +5,7 @@ use Rattle.pgw_copy.specs.State.{cells_of}
 use Rattle.pgw_tree.specs.Tree.{shapes}
 use Rattle.pgw_tree.proofs.Parts.{fault_exit}
 use Rattle.pgw_tree.proofs.PlainRows.{plain_told}
-use Rattle.pgw_tree.proofs.turn.send_values.Goals as goal
+use Rattle.pgw_tree.proofs.next_row.send_values.Goals as goal
 
 pub returns-then-send-bytes-clause-write_fault : goal.returns-then-send-bytes-clause-write_fault
 returns-then-send-bytes-clause-write_fault g c = λ _.

@@ -2,11 +2,11 @@
 use Rattle.std.specs.Prelude.{◌≡◌, ℕ, ◌≤◌, ◌==◌, List, length, codes, option_map, IfSome}
 use Rattle.std.specs.List.{filter_map, list_all}
 use Rattle.std.specs.Str.Parse.{digits_value}
-use Rattle.pgcopy.specs.declared.words.Seen.{Seen}
+use Rattle.pgcopy.specs.declared.words.WordsRead.{WordsRead}
 use Rattle.pgcopy.specs.Words.{type_of, is_option, digits_in}
 
 -- the numbers of the options among these words, and how many types they have
-pub record HasSeen (seen : Seen) (words : List (List ℕ)) : Type 0 where
+pub record AreRead (seen : WordsRead) (words : List (List ℕ)) : Type 0 where
   pub rows : seen.rows ≡ option_map (digits_value 10) (digits_in (codes "rows=") words)
   pub field : seen.field ≡ option_map (digits_value 10) (digits_in (codes "field=") words)
   pub field_fits : IfSome seen.field (λ n. n ≤ 2147483647)
