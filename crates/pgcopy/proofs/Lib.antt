@@ -1,7 +1,9 @@
 pub mod Kept
 pub mod Options
+pub mod Plans
 pub mod ReadingWords
 pub mod Sending
 pub mod Told
+pub mod TypeNames
 pub mod Worked
 pub mod WorkedWords

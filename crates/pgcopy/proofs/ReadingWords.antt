@@ -1,5 +1,5 @@
 -- What is kept of the words that were read, with one word more.
-use Rattle.std.proofs.Common.{◌≡◌, ℕ, ◌+◌, ◌≤◌, ◌&&◌, List, [], ◌∷◌, ◌++◌, length, codes, Option, None, Some, option_map, Ok, Bool, true, false, refl, sym, ap, ◌∙◌, arith, rules, if◌then◌else◌}
+use Rattle.std.proofs.Common.{◌≡◌, ℕ, ◌+◌, ◌≤◌, ◌==◌, ◌&&◌, List, [], ◌∷◌, ◌++◌, length, codes, Option, None, Some, option_map, Ok, Bool, true, false, refl, sym, ap, ◌∙◌, arith, rules, if◌then◌else◌}
 use Rattle.std.proofs.lemmas.Bool.{ne_eqb}
 use Rattle.std.proofs.lemmas.List.{append-nil, length-append}
 use Rattle.std.proofs.lemmas.List.Elements.{filter_map-append}
@@ -12,7 +12,7 @@ use Rattle.pgw_tree.specs.Tree.{Shape, shape}
 use Rattle.pgw_tree.specs.declared.types.FirstType.{FirstType}
 use Rattle.pgcopy.specs.declared.words.WordFault.TheVariants.{NotYet}
 use Rattle.pgcopy.specs.declared.words.WordsRead.{WordsRead}
-use Rattle.pgcopy.specs.Words.{type_of, behind, is_option, number_of, digits_in, option_fault, word_fault}
+use Rattle.pgcopy.specs.Words.{type_of, in_front, behind, is_option, number_of, digits_in, number_fault, option_fault, word_fault}
 use Rattle.pgcopy.specs.WordsRead.{AreRead}
 use Rattle.pgcopy.proofs.Options.{behind_is}
 
@@ -63,30 +63,29 @@ all_added word before = list_all-append is_option before (word ∷ []) ∙ ap (�
 number_given : (most n : ℕ) (digits : List ℕ) (again : Bool) → Ok n ≡ number_of most digits again → (again ≡ false) × (n ≡ digits_value 10 digits) × (n ≤ most)
 number_given most n digits again h = search rules
 
-rows_is_no_type : (rest : List ℕ) → type_of (codes "rows=" ++ rest) ≡ None
-rows_is_no_type rest = refl
-
 rows_is_no_field : (rest : List ℕ) → behind (codes "field=") (codes "rows=" ++ rest) ≡ None
 rows_is_no_field rest = refl
 
-field_is_no_type : (rest : List ℕ) → type_of (codes "field=" ++ rest) ≡ None
-field_is_no_type rest = refl
-
-oid_is_no_type : (rest : List ℕ) → type_of (codes "oid=" ++ rest) ≡ None
-oid_is_no_type rest = refl
-
-rows_is_option : (rest : List ℕ) → is_option (codes "rows=" ++ rest) ≡ true
-rows_is_option rest = refl
+pub rows_no_field : (word rest : List ℕ) → behind (codes "rows=") word ≡ Some rest → behind (codes "field=") word ≡ None
+rows_no_field word rest is = ap (behind (codes "field=")) (behind_is (codes "rows=") word rest is) ∙ rows_is_no_field rest
 
 field_is_no_rows : (rest : List ℕ) → behind (codes "rows=") (codes "field=" ++ rest) ≡ None
 field_is_no_rows rest = refl
 
+-- no option is a type
+no_types : (rest : List ℕ) → (type_of (codes "rows=" ++ rest) ≡ None) × (type_of (codes "field=" ++ rest) ≡ None) × (type_of (codes "oid=" ++ rest) ≡ None)
+no_types rest = by (in_front (codes "?") rest) refl
+  where
+    by : (r : Option (List ℕ)) → in_front (codes "?") rest ≡ r → (type_of (codes "rows=" ++ rest) ≡ None) × (type_of (codes "field=" ++ rest) ≡ None) × (type_of (codes "oid=" ++ rest) ≡ None)
+    by None is = rw is (refl, refl, refl)
+    by (Some front) is = rw is (refl, refl, refl)
+
 -- a type is no option
-type_is_plain : (word : List ℕ) (t : Shape) → type_of word ≡ Some t → (behind (codes "rows=") word ≡ None) × (behind (codes "field=") word ≡ None) × (behind (codes "oid=") word ≡ None)
+pub type_is_plain : (word : List ℕ) (t : Shape) → type_of word ≡ Some t → (behind (codes "rows=") word ≡ None) × (behind (codes "field=") word ≡ None) × (behind (codes "oid=") word ≡ None)
 type_is_plain word t e = (
-  by (codes "rows=") rows_is_no_type (behind (codes "rows=") word) refl,
-  by (codes "field=") field_is_no_type (behind (codes "field=") word) refl,
-  by (codes "oid=") oid_is_no_type (behind (codes "oid=") word) refl,
+  by (codes "rows=") (λ rest. (no_types rest).0) (behind (codes "rows=") word) refl,
+  by (codes "field=") (λ rest. (no_types rest).1) (behind (codes "field=") word) refl,
+  by (codes "oid=") (λ rest. (no_types rest).2) (behind (codes "oid=") word) refl,
 )
   where
     no : None ≡ Some t → ⊥
@@ -109,47 +108,64 @@ pub type_named : (word : List ℕ) (r : Option FirstType) → option_map shape r
 type_named word (Some t) e h = (shape t, sym e)
 type_named word None e h = cc
 
-pub rows_seen : (seen : WordsRead) (n : ℕ) (word digits : List ℕ) (before : List (List ℕ)) → AreRead seen before → list_all is_option before ≡ true → behind (codes "rows=") word ≡ Some digits → Ok n ≡ number_of 18446744073709551615 digits (is_some seen.rows) → (option_fault before word ≡ None) × AreRead (record seen { rows = Some n }) (before ++ word ∷ [])
-rows_seen seen n word digits before h all is given =
+-- what reading the option `front` gives, where the words before it held this number of it
+record IsTaken (front : List ℕ) (most n : ℕ) (word : List ℕ) (before : List (List ℕ)) : Type 0 where
+  fits : n ≤ most
+  good : number_fault front most before word ≡ None
+  given : Some n ≡ option_map (digits_value 10) (digits_in front (before ++ word ∷ []))
+
+taken : (front : List ℕ) (most n : ℕ) (word digits : List ℕ) (before : List (List ℕ)) (held : Option ℕ) → held ≡ option_map (digits_value 10) (digits_in front before)
+    → behind front word ≡ Some digits → Ok n ≡ number_of most digits (is_some held) → IsTaken front most n word before
+taken front most n word digits before held h is given =
+    let again : is_some held ≡ is_some (digits_in front before) = ap is_some h ∙ is_some_map _ _ in
+    let parts = number_given most n digits (is_some held) given in
+    let none : digits_in front before ≡ None = none_if _ (sym again ∙ parts.0) in
+    record {
+      fits = parts.2;
+      good = rw is (ap (λ b. result_err (number_of most digits b)) (sym again) ∙ ap result_err (sym given));
+      given = ap Some parts.1 ∙ sym (ap (option_map (digits_value 10)) (digits_added front word digits before is none));
+    }
+
+-- An option behind options adds no type.
+begun_with : (seen : WordsRead) (word : List ℕ) (before : List (List ℕ)) → AreRead seen before → list_all is_option before ≡ true → is_option word ≡ true → type_of word ≡ None
+    → (seen.types ≡ length (filter_map type_of (before ++ word ∷ []))) × ((seen.types == 0) ≡ list_all is_option (before ++ word ∷ []))
+begun_with seen word before h all option no_type =
+    let whole : list_all is_option (before ++ word ∷ []) ≡ true = all_added word before ∙ rw (all, option) refl in
+    (h.types ∙ sym (types_kept word before no_type), h.begun ∙ all ∙ sym whole)
+
+pub rows_seen : (seen : WordsRead) (n : ℕ) (word digits : List ℕ) (before : List (List ℕ)) → AreRead seen before → list_all is_option before ≡ true → is_option word ≡ true → behind (codes "rows=") word ≡ Some digits → Ok n ≡ number_of 18446744073709551615 digits (is_some seen.rows) → (option_fault before word ≡ None) × AreRead (record seen { rows = Some n }) (before ++ word ∷ [])
+rows_seen seen n word digits before h all option is given =
     let e : word ≡ codes "rows=" ++ digits = behind_is (codes "rows=") word digits is in
-    let again : is_some seen.rows ≡ is_some (digits_in (codes "rows=") before) = ap is_some h.rows ∙ is_some_map _ _ in
-    let parts = number_given 18446744073709551615 n digits (is_some seen.rows) given in
-    let none : digits_in (codes "rows=") before ≡ None = none_if _ (sym again ∙ parts.0) in
-    let no_type : type_of word ≡ None = ap type_of e ∙ rows_is_no_type digits in
-    let no_field : behind (codes "field=") word ≡ None = ap (behind (codes "field=")) e ∙ rows_is_no_field digits in
-    let option : is_option word ≡ true = ap is_option e ∙ rows_is_option digits in
-    let whole : list_all is_option (before ++ word ∷ []) ≡ true = all_added word before ∙ rw (all, option) refl in (
-      rw is (ap (λ b. result_err (number_of 18446744073709551615 digits b)) (sym again) ∙ ap result_err (sym given)),
+    let no_field = rows_no_field word digits is in
+    let t = taken (codes "rows=") 18446744073709551615 n word digits before seen.rows h.rows is given in
+    let b = begun_with seen word before h all option (ap type_of e ∙ (no_types digits).0) in (
+      rw is (rw is at t.good),
       record {
-        rows = ap Some parts.1 ∙ sym (ap (option_map (digits_value 10)) (digits_added (codes "rows=") word digits before is none));
+        rows = t.given;
         field = h.field ∙ sym (ap (option_map (digits_value 10)) (digits_kept (codes "field=") word before no_field));
         field_fits = h.field_fits;
-        types = h.types ∙ sym (types_kept word before no_type);
-        begun = h.begun ∙ all ∙ sym whole;
+        types = b.0;
+        begun = b.1;
       },
     )
 
-pub field_seen : (seen : WordsRead) (n : ℕ) (word digits : List ℕ) (before : List (List ℕ)) → AreRead seen before → list_all is_option before ≡ true → behind (codes "field=") word ≡ Some digits → Ok n ≡ number_of 2147483647 digits (is_some seen.field) → (option_fault before word ≡ None) × AreRead (record seen { field = Some n }) (before ++ word ∷ [])
-field_seen seen n word digits before h all is given =
+pub field_seen : (seen : WordsRead) (n : ℕ) (word digits : List ℕ) (before : List (List ℕ)) → AreRead seen before → list_all is_option before ≡ true → is_option word ≡ true → behind (codes "field=") word ≡ Some digits → Ok n ≡ number_of 2147483647 digits (is_some seen.field) → (option_fault before word ≡ None) × AreRead (record seen { field = Some n }) (before ++ word ∷ [])
+field_seen seen n word digits before h all option is given =
     let e : word ≡ codes "field=" ++ digits = behind_is (codes "field=") word digits is in
-    let again : is_some seen.field ≡ is_some (digits_in (codes "field=") before) = ap is_some h.field ∙ is_some_map _ _ in
-    let parts = number_given 2147483647 n digits (is_some seen.field) given in
-    let none : digits_in (codes "field=") before ≡ None = none_if _ (sym again ∙ parts.0) in
-    let no_type : type_of word ≡ None = ap type_of e ∙ field_is_no_type digits in
     let no_rows : behind (codes "rows=") word ≡ None = ap (behind (codes "rows=")) e ∙ field_is_no_rows digits in
-    let option : is_option word ≡ true = rw (no_rows, is) refl in
-    let whole : list_all is_option (before ++ word ∷ []) ≡ true = all_added word before ∙ rw (all, option) refl in (
-      rw (no_rows, is) (ap (λ b. result_err (number_of 2147483647 digits b)) (sym again) ∙ ap result_err (sym given)),
+    let t = taken (codes "field=") 2147483647 n word digits before seen.field h.field is given in
+    let b = begun_with seen word before h all option (ap type_of e ∙ (no_types digits).1) in (
+      rw (no_rows, is) (rw is at t.good),
       record {
         rows = h.rows ∙ sym (ap (option_map (digits_value 10)) (digits_kept (codes "rows=") word before no_rows));
-        field = ap Some parts.1 ∙ sym (ap (option_map (digits_value 10)) (digits_added (codes "field=") word digits before is none));
-        field_fits = parts.2;
-        types = h.types ∙ sym (types_kept word before no_type);
-        begun = h.begun ∙ all ∙ sym whole;
+        field = t.given;
+        field_fits = t.fits;
+        types = b.0;
+        begun = b.1;
       },
     )
 
-and_false : (b : Bool) → (b && false) ≡ false
+pub and_false : (b : Bool) → (b && false) ≡ false
 and_false true = refl
 and_false false = refl
 

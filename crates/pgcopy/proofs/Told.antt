@@ -1,15 +1,15 @@
 -- What a fault of a copy says of the run that met it.
-use Rattle.std.proofs.Common.{◌≡◌, ◌⊎◌, ℕ, Bool, List, Option, Result, Ok, Err, IsOkAnd, refl, ap, inl, inr}
+use Rattle.std.proofs.Common.{◌≡◌, ◌⊎◌, Result, Ok, Err, IsOkAnd, refl, ap, inl, inr}
 use Rattle.std.specs.Prelude.{IsOk}
 use Rattle.std.specs.Result.{IsOkUnless}
-use Rattle.pgw_wire.specs.Outside.{Took, Wrote}
+use Rattle.pgw_wire.specs.Outside.{SourceState, SinkState}
 use Rattle.pgw_wire.proofs.Taking.{took_none}
 use Rattle.pgw_wire.proofs.Adding.{wrote_none}
 use Rattle.pgw_tree.specs.declared.fault.CopyFault.{CopyFault}
 use Rattle.pgw_tree.specs.declared.fault.CopyFault.TheVariants.{BadHeader, BadFlags, Truncated, BadFieldCount, UnexpectedEndOfRow, BadValue, TooLong, RowLimit, ReadFault, WriteFault, NoMemory}
-use Rattle.pgw_tree.specs.Limits.{Limits}
-use Rattle.pgw_tree.specs.Tree.{Shape}
-use Rattle.pgw_tree.specs.Causes.{fault_says}
+use Rattle.pgw_tree.specs.Causes.{no_memory_at_first}
+use Rattle.pgcopy.specs.Words.{PlanData}
+use Rattle.pgcopy.specs.Runs.{MetFault}
 use Rattle.pgcopy.specs.declared.report.Status.TheVariants.{Refused as status_refused, NoMemory as status_no_memory}
 use Rattle.pgcopy.specs.Report.{fault_status}
 
@@ -27,8 +27,13 @@ pub status_at_fault : {X : Type 0} (r : Result X CopyFault) (fault : CopyFault) 
 status_at_fault r fault is h = ap fault_status (rw is at h)
 
 -- Where nothing was taken and nothing written, memory may be what was missing.
-pub no_memory_at_first : (limits : Limits) (columns : List Shape) (left gained : Option (List ℕ)) (settled : Option Bool) → Took left left (fault_says limits columns NoMemory (Wrote gained gained settled settled))
-no_memory_at_first limits columns left gained settled = took_none (inl (refl, wrote_none gained settled))
+pub no_memory_met : {S K : Type 0} (plan : PlanData) (source : SourceState S) (sink : SinkState K) → MetFault plan NoMemory source source sink sink
+no_memory_met plan source sink = record {
+  says = took_none (inl (no_memory_at_first refl refl, wrote_none sink));
+  at_end = λ e. absurd (cc);
+  source_failed = λ e. absurd (cc);
+  sink_failed = λ e. absurd (cc);
+}
 
 -- A fault that is not the outside's refuses the stream, or memory was missing.
 pub refused_at_fault : {F W : Type 0} (fault : CopyFault) → (fault ≡ ReadFault → F) → (fault ≡ WriteFault → W) → (F → ⊥) → (W → ⊥) → (fault_status fault ≡ status_refused) ⊎ (fault_status fault ≡ status_no_memory)

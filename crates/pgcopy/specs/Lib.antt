@@ -1,3 +1,4 @@
 pub mod Report
 pub mod WordsRead
 pub mod Words
+pub mod Runs

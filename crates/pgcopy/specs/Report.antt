@@ -1,8 +1,7 @@
 -- The line and the status that tell what a run came to.
-use Rattle.std.specs.Prelude.{ℕ, zero, suc, ◌/◌, ◌%◌, List, [], ◌∷◌, ◌++◌, slice_index, codes, decimal, Option, ◌≡◌}
+use Rattle.std.specs.Prelude.{ℕ, zero, suc, ◌/◌, ◌%◌, List, [], ◌∷◌, ◌++◌, slice_index, codes, decimal, ◌⊎◌}
 use Rattle.std.specs.Fmt.{signed_decimal}
-use Rattle.std.specs.Io.KnownBytes.{Appends}
-use Rattle.pgw_wire.specs.Outside.{HasFailed}
+use Rattle.pgw_wire.specs.Outside.{SinkState, HasFailed, Wrote, WroteFront}
 use Rattle.pgw_wire.specs.declared.kind.Break.{Break}
 use Rattle.pgw_wire.specs.declared.kind.Break.TheVariants.{Null, Size, Count, Utf8, Sign, Family, Prefix, ZeroOid, Dimensions, Surplus}
 use Rattle.pgw_tree.specs.declared.fault.CopyFault.{CopyFault}
@@ -46,7 +45,8 @@ fault_text NotYet = codes "not supported yet"
 -- the last hexadecimal digits of a number, this many of them, the most significant first
 abbrev pub hexadecimal : ℕ → ℕ → List ℕ
 hexadecimal zero number = []
-hexadecimal (suc count) number = hexadecimal count (number / 16) ++ slice_index (codes "0123456789ABCDEF") (number % 16) ∷ []
+hexadecimal (suc count) number =
+    hexadecimal count (number / 16) ++ slice_index (codes "0123456789ABCDEF") (number % 16) ∷ []
 
 -- all digits of the 32 bits of a header's flags
 abbrev pub flags_text : ℕ → List ℕ
@@ -89,10 +89,7 @@ outcome_text (Fault fault) = copy_fault_text fault
 abbrev pub line_of : Outcome → List ℕ
 line_of outcome = outcome_text outcome ++ codes "\n"
 
--- A sink gained these bytes, or where it failed a front of them.
-pub record GainsUnlessFailed {N : Type 0} (gained : N → Option (List ℕ)) (fault_count : N → ℕ) (old new : N) (bytes : List ℕ) : Type 0 where
-  pub whole : (HasFailed (fault_count old) (fault_count new) → ⊥) → Appends (gained old) (gained new) bytes
-  pub front : List ℕ
-  pub rest : List ℕ
-  pub begun : Appends (gained old) (gained new) front
-  pub is : bytes ≡ front ++ rest
+-- These bytes were written, or the sink failed and a front of them was.
+abbrev pub WroteUnlessFailed : {Origin : Type 0} → SinkState Origin → SinkState Origin → List ℕ → Type 0
+WroteUnlessFailed before now bytes =
+    Wrote before now bytes ⊎ (WroteFront (Wrote before now) bytes × HasFailed before now)

@@ -1,6 +1,6 @@
 -- What the words of a command line ask for: the limits, and the types of the columns to copy, or the first thing that
 -- is wrong.
-use Rattle.std.specs.Prelude.{ℕ, ◌+◌, ◌==◌, ◌&&◌, ◌||◌, List, [], ◌∷◌, ◌++◌, length, drop, map, String, string_bytes, codes, Option, None, Some, is_none, is_some, option_map, Result, Ok, Err, Bool, false, nat_lt, nat_le, if◌then◌else◌}
+use Rattle.std.specs.Prelude.{ℕ, ◌≤◌, ◌≡◌, ◌==◌, ◌&&◌, ◌||◌, List, [], ◌∷◌, ◌++◌, length, drop, map, String, string_bytes, codes, Option, None, Some, is_none, is_some, option_map, Result, Ok, Err, Bool, true, false, nat_lt, nat_le, if◌then◌else◌}
 use Rattle.std.specs.List.{filter_map, starts_with, list_all}
 use Rattle.std.specs.Option.{option_or, option_and_then, option_map_or}
 use Rattle.std.specs.Result.{result_err}
@@ -11,40 +11,74 @@ use Rattle.pgw_tree.specs.Limits.{Limits, default_limits}
 use Rattle.pgcopy.specs.declared.words.WordFault.{WordFault}
 use Rattle.pgcopy.specs.declared.words.WordFault.TheVariants.{NoCommand, UnknownCommand, BadNumber, Repeated, NoTypes, Schema, NotYet}
 
--- What words without a fault ask for.
-pub record PlanData : Type 0 where
-  pub limits : Limits
-  pub columns : List Shape
+-- the types that have a name
+abbrev pub type_names : List (List ℕ × Shape)
+type_names = (codes "int4", int4) ∷ (codes "text", text) ∷ []
 
--- What is wrong, and the place of its word, counted from 0. What is wrong with no single word has the place behind the
--- last.
-pub record PlacedFault : Type 0 where
-  pub place : ℕ
-  pub fault : WordFault
+-- what stands beside a name in a table
+abbrev pub look_up : {A : Type 0} → List ℕ → List (List ℕ × A) → Option A
+look_up name [] = None
+look_up name (entry ∷ entries) = if bytes_eq name entry.0 then Some entry.1 else look_up name entries
 
-abbrev pub fault_at : ℕ → WordFault → Result PlanData PlacedFault
-fault_at place fault = Err (record { place = place; fault = fault })
+-- what stands in a word in front of these bytes, where it ends with them
+abbrev pub in_front : List ℕ → List ℕ → Option (List ℕ)
+in_front back [] = if bytes_eq [] back then Some [] else None
+in_front back (byte ∷ bytes) =
+    if bytes_eq (byte ∷ bytes) back then Some [] else option_map (λ front. byte ∷ front) (in_front back bytes)
 
--- the column type that a word names
+-- The column type that a word names. With a `?` at its end the column may be null.
 abbrev pub type_of : List ℕ → Option Shape
 type_of word =
-    if bytes_eq word (codes "int4") then Some int4
-    else if bytes_eq word (codes "int4?") then Some (nullable int4)
-    else if bytes_eq word (codes "text") then Some text
-    else if bytes_eq word (codes "text?") then Some (nullable text)
-    else None
+    option_map_or (λ name. option_map nullable (look_up name type_names)) (in_front (codes "?") word)
+    (look_up word type_names)
 
 -- what stands in a word behind these bytes, where it begins with them
 abbrev pub behind : List ℕ → List ℕ → Option (List ℕ)
 behind front word = if starts_with ◌==◌ word front then Some (drop (length front) word) else None
 
--- whether a word is an option, where no type stands before it
-abbrev pub is_option : List ℕ → Bool
-is_option word = is_some (behind (codes "rows=") word) || is_some (behind (codes "field=") word) || is_some (behind (codes "oid=") word)
+-- whether a word is an option that sets a limit, where no type stands before it
+abbrev pub is_limit : List ℕ → Bool
+is_limit word = is_some (behind (codes "rows=") word) || is_some (behind (codes "field=") word)
 
 -- one or more decimal digits, of a number of at most `most`
 abbrev pub is_number : ℕ → List ℕ → Bool
 is_number most digits = nat_lt 0 (length digits) && all_ascii_digits digits && nat_le (digits_value 10 digits) most
+
+-- The limit that an option sets, by the digits of each word that is this option: without such a word it is `most`, and
+-- with one the number of its digits. More do not stand in a plan.
+abbrev pub IsSet : ℕ → List (List ℕ) → ℕ → Type 0
+IsSet most [] limit = limit ≡ most
+IsSet most (digits ∷ []) limit = (is_number most digits ≡ true) × (limit ≡ digits_value 10 digits)
+IsSet most (digits ∷ again ∷ more) limit = ⊥
+
+-- the bytes of the words
+abbrev pub texts : {A : Type 0} → List (String A) → List (List ℕ)
+texts words = map string_bytes words
+
+-- How much to copy at most, and the types of the columns.
+pub record PlanData : Type 0 where
+  pub limits : Limits
+  pub columns : List Shape
+
+-- Words ask for this: the command `copy`, then options, each at most once, and then the types of 1 to 32767 columns.
+pub record IsPlan (words : List (List ℕ)) (plan : PlanData) : Type 0 where
+  pub options : List (List ℕ)
+  pub types : List (List ℕ)
+  pub is : words ≡ codes "copy" ∷ (options ++ types)
+  pub known : list_all is_limit options ≡ true
+  pub rows : IsSet default_limits.rows_max (filter_map (behind (codes "rows=")) options) plan.limits.rows_max
+  pub field : IsSet default_limits.field_max (filter_map (behind (codes "field=")) options) plan.limits.field_max
+  pub columns : map type_of types ≡ map Some plan.columns
+  pub some : 1 ≤ length plan.columns
+  pub few : length plan.columns ≤ 32767
+
+-- No plan is what the words ask for.
+abbrev pub HasNoPlan : List (List ℕ) → Type 0
+HasNoPlan words = (plan : PlanData) → IsPlan words plan → ⊥
+
+-- whether a word is an option, where no type stands before it
+abbrev pub is_option : List ℕ → Bool
+is_option word = is_limit word || is_some (behind (codes "oid=") word)
 
 -- the number of an option, or what is wrong with it: its digits, or that the option stands before it already
 abbrev pub number_of : ℕ → List ℕ → Bool → Result ℕ WordFault
@@ -59,13 +93,15 @@ digits_in front (word ∷ words) = option_or (behind front word) (digits_in fron
 -- what is wrong with the number of a word that is the option `front`, behind these words
 abbrev pub number_fault : List ℕ → ℕ → List (List ℕ) → List ℕ → Option WordFault
 number_fault front most before word =
-    option_and_then (λ digits. result_err (number_of most digits (is_some (digits_in front before)))) (behind front word)
+    option_and_then (λ digits. result_err (number_of most digits (is_some (digits_in front before))))
+    (behind front word)
 
 -- what is wrong with an option behind these words
 abbrev pub option_fault : List (List ℕ) → List ℕ → Option WordFault
 option_fault before word =
     if is_some (behind (codes "rows=") word) then number_fault (codes "rows=") default_limits.rows_max before word
-    else if is_some (behind (codes "field=") word) then number_fault (codes "field=") default_limits.field_max before word
+    else if is_some (behind (codes "field=") word)
+    then number_fault (codes "field=") default_limits.field_max before word
     else Some NotYet
 
 -- What is wrong with a word behind these words, the command not among them. It is an option or a type.
@@ -75,12 +111,41 @@ word_fault before word =
     else if is_none (type_of word) then Some NotYet
     else None
 
--- the first of the words that something is wrong with, where the words before them stand between it and the command
+-- what is wrong with the number of columns
+abbrev pub columns_fault : ℕ → Option WordFault
+columns_fault count = if count == 0 then Some NoTypes else if nat_lt 32767 count then Some (Schema 2) else None
+
+-- What is wrong at the place between the words `before` and the words `after`: with the first of `after`, and where
+-- there is none, with all the words together.
+abbrev pub fault_between : List (List ℕ) → List (List ℕ) → Option WordFault
+fault_between [] [] = Some NoCommand
+fault_between [] (command ∷ after) = if bytes_eq command (codes "copy") then None else Some UnknownCommand
+fault_between (command ∷ before) (word ∷ after) = word_fault before word
+fault_between (command ∷ before) [] = columns_fault (length (filter_map type_of before))
+
+-- What is wrong, and the place of its word, counted from 0. What is wrong with no single word has the place behind the
+-- last.
+pub record PlacedFault : Type 0 where
+  pub place : ℕ
+  pub fault : WordFault
+
+-- This is wrong with the words at its place, and nothing is wrong with a word in front of it.
+pub record IsFirstFault (words : List (List ℕ)) (wrong : PlacedFault) : Type 0 where
+  pub before : List (List ℕ)
+  pub after : List (List ℕ)
+  pub is : words ≡ before ++ after
+  pub place : wrong.place ≡ length before
+  pub fault : fault_between before after ≡ Some wrong.fault
+  pub first : (front : List (List ℕ)) (word : List ℕ) (back : List (List ℕ)) → before ≡ front ++ word ∷ back
+      → fault_between front (word ∷ back) ≡ None
+
+-- the first fault at a place not before the words `after`, where the words `before` stand in front of them
 abbrev pub first_fault : List (List ℕ) → List (List ℕ) → Option PlacedFault
-first_fault before [] = None
-first_fault before (word ∷ words) =
-    option_or (option_map (λ fault. record { place = length before + 1; fault = fault }) (word_fault before word))
-    (first_fault (before ++ word ∷ []) words)
+first_fault before [] = option_map (λ fault. record { place = length before; fault = fault }) (fault_between before [])
+first_fault before (word ∷ after) =
+    option_or
+    (option_map (λ fault. record { place = length before; fault = fault }) (fault_between before (word ∷ after)))
+    (first_fault (before ++ word ∷ []) after)
 
 -- the number that an option sets, or else its default
 abbrev pub number_in : List ℕ → ℕ → List (List ℕ) → ℕ
@@ -92,29 +157,22 @@ limits_in words = record {
   field_max = number_in (codes "field=") default_limits.field_max words;
 }
 
--- a column for each type, where nothing is wrong with a single word
-abbrev pub whole_plan : List (List ℕ) → List Shape → Result PlanData PlacedFault
-whole_plan words columns =
-    if length columns == 0 then fault_at (length words + 1) NoTypes
-    else if nat_lt 32767 (length columns) then fault_at (length words + 1) (Schema 2)
-    else Ok (record { limits = limits_in words; columns = columns })
-
-abbrev pub plan_behind : List (List ℕ) → Result PlanData PlacedFault
-plan_behind words = option_map_or Err (first_fault [] words) (whole_plan words (filter_map type_of words))
-
 abbrev pub plan_of_texts : List (List ℕ) → Result PlanData PlacedFault
-plan_of_texts [] = fault_at 0 NoCommand
-plan_of_texts (command ∷ words) = if bytes_eq command (codes "copy") then plan_behind words else fault_at 0 UnknownCommand
+plan_of_texts words =
+    option_map_or Err (first_fault [] words)
+    (Ok (record { limits = limits_in words; columns = filter_map type_of words }))
 
--- what the words ask for: the command `copy`, then options, and then a type for each column
+-- The plan of words, or their first fault. `IsPlan` and `IsFirstFault` say which these are, and `read_words` that they
+-- agree.
 abbrev pub plan_of : {A : Type 0} → List (String A) → Result PlanData PlacedFault
-plan_of words = plan_of_texts (map string_bytes words)
+plan_of words = plan_of_texts (texts words)
 
 -- Words that ask what the program is, and for no command: one of these three alone.
 abbrev pub asks_about_texts : List (List ℕ) → Bool
 asks_about_texts [] = false
-asks_about_texts (word ∷ []) = bytes_eq word (codes "--help") || bytes_eq word (codes "-h") || bytes_eq word (codes "--version")
+asks_about_texts (word ∷ []) =
+    bytes_eq word (codes "--help") || bytes_eq word (codes "-h") || bytes_eq word (codes "--version")
 asks_about_texts (word ∷ other ∷ words) = false
 
 abbrev pub asks_about : {A : Type 0} → List (String A) → Bool
-asks_about words = asks_about_texts (map string_bytes words)
+asks_about words = asks_about_texts (texts words)

@@ -1,5 +1,5 @@
 ghost use Rattle.std.specs.Prelude.{◌≡◌, IsSome, IsErr, is_some};
-ghost use Rattle.pgcopy.specs.Words.{plan_of, asks_about};
+ghost use Rattle.pgcopy.specs.Words.{texts, HasNoPlan, asks_about};
 
 /// How the program is used.
 const HELP: &str = "\
@@ -34,7 +34,7 @@ const VERSION: &str = "pgcopy 0.1.0\n";
 /// What the program tells of itself where one of the words `--help`, `-h` and `--version` stands alone.
 pub fn asked(words: &[String]) -> Option<&'static str>
     ensures asked { is_some result ≡ asks_about words.now }
-    ensures no_plan { IsSome result → IsErr (plan_of words.now) }
+    ensures no_plan { IsSome result → HasNoPlan (texts words.now) }
 {
     if words.len() != 1 {
         return None;

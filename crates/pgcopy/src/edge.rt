@@ -1,10 +1,10 @@
-ghost use Rattle.std.specs.Prelude.{◌≡◌, ◌≢◌, ◌↔◌, ◌⊎◌, List, ℕ, Some, IfOk, IfErr, IsErr, IsOkAnd};
+ghost use Rattle.std.specs.Prelude.{◌≡◌, ◌≢◌, ◌↔◌, ◌⊎◌, List, ℕ, Some, IfOk, IfErr, IsErr, IsOkAnd, true};
 ghost use Rattle.pgw_wire.specs.Outside.{HasFront};
 ghost use Rattle.pgw_tree.specs.Stream.{IsValidStream};
 ghost use Rattle.std.specs.Io.{ReadsAtMost, WritesAtMost};
 ghost use Rattle.std.specs.Io.KnownBytes.{Keeps, ReadConsumes, WriteAppends};
 ghost use Rattle.std.specs.IoError.{error_kind};
-ghost use Rattle.pgcopy.specs.Words.{plan_of};
+ghost use Rattle.pgcopy.specs.Words.{texts, PlanData, IsPlan, HasNoPlan};
 
 use crate::report::Status;
 use crate::run::run;
@@ -24,6 +24,13 @@ const OUTPUT: usize = 65536;
 /// How many bytes of a line are kept: more than any line has.
 const LINE: usize = 256;
 
+/// Whether a signal interrupted the call that failed with this error. Such a call is made again, and no other.
+fn is_interrupted(error: &Error) -> bool
+    ensures { (result ≡ true) ↔ (error_kind error.now ≡ ErrorKind.Interrupted) }
+{
+    error.kind() == ErrorKind::Interrupted
+}
+
 /// A reader or a writer whose calls are made again where a signal interrupted them. It gives up after 2^64 - 1 tries.
 #[derive(Drop)]
 struct Retrying<T> {
@@ -42,7 +49,7 @@ impl<R: Read> Read for Retrying<R> {
         for _ in 0..u64::MAX {
             match self.inner.read(buf) {
                 Ok(n) => return Ok(n),
-                Err(e) if e.kind() == ErrorKind::Interrupted => {}
+                Err(e) if is_interrupted(&e) => {}
                 Err(e) => return Err(e),
             }
         }
@@ -62,7 +69,7 @@ impl<W: Write> Write for Retrying<W> {
         for _ in 0..u64::MAX {
             match self.inner.write(buf) {
                 Ok(n) => return Ok(n),
-                Err(e) if e.kind() == ErrorKind::Interrupted => {}
+                Err(e) if is_interrupted(&e) => {}
                 Err(e) => return Err(e),
             }
         }
@@ -77,7 +84,7 @@ impl<W: Write> Write for Retrying<W> {
         for _ in 0..u64::MAX {
             match self.inner.flush() {
                 Ok(()) => return Ok(()),
-                Err(e) if e.kind() == ErrorKind::Interrupted => {}
+                Err(e) if is_interrupted(&e) => {}
                 Err(e) => return Err(e),
             }
         }
@@ -105,12 +112,13 @@ pub fn copy<I: Read + Drop, O: Write + Drop, E: Write + Drop>(
     output: O,
     errors: E,
 ) -> io::Result<Status>
-    ensures words { IfOk result (λ status. (status ≡ Status.Words) ↔ IsErr (plan_of words.now)) }
-    ensures copied { IfOk result (λ status. status ≡ Status.Copied → IsOkAnd (plan_of words.now) (λ plan.
-        (left : List ℕ) → I.remaining input ≡ Some left → HasFront (Some left) (IsValidStream plan.limits plan.columns))) }
-    ensures complete { IfOk result (λ status. IfOk (plan_of words.now) (λ plan.
-        HasFront (I.remaining input) (IsValidStream plan.limits plan.columns)
-        → (status ≡ Status.Copied) ⊎ (status ≡ Status.Outside) ⊎ (status ≡ Status.NoMemory))) }
+    ensures words { IfOk result (λ status. (status ≡ Status.Words) ↔ HasNoPlan (texts words.now)) }
+    ensures copied { IfOk result (λ status. status ≡ Status.Copied → (plan : PlanData) × IsPlan (texts words.now) plan
+        × ((left : List ℕ) → I.remaining input ≡ Some left
+        → HasFront (Some left) (IsValidStream plan.limits plan.columns))) }
+    ensures complete { IfOk result (λ status. (plan : PlanData) → IsPlan (texts words.now) plan
+        → HasFront (I.remaining input) (IsValidStream plan.limits plan.columns)
+        → (status ≡ Status.Copied) ⊎ (status ≡ Status.Outside) ⊎ (status ≡ Status.NoMemory)) }
     ensures known { IfOk result (λ status. status ≢ Status.UnknownType) }
     ensures no_memory { IfErr result (λ e. error_kind e ≡ ErrorKind.OutOfMemory) }
 {

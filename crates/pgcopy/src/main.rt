@@ -6,6 +6,8 @@ mod about;
 mod edge;
 #[cfg(test)]
 mod edge_tests;
+#[cfg(test)]
+mod error_tests;
 mod report;
 mod run;
 #[cfg(test)]

@@ -1,8 +1,6 @@
 ghost use Rattle.std.specs.Prelude.{◌≡◌, ℕ, ◌≤◌, ◌++◌, codes};
 ghost use Rattle.std.specs.List.{flat_map};
-ghost use Rattle.std.specs.Io.KnownBytes.{Appends};
-ghost use Rattle.pgw_wire.specs.Outside.{HasFailed};
-ghost use Rattle.pgcopy.specs.Report.{code_of, fault_status, status_of, fault_text, flags_text, kind_text, field_text, copy_fault_text, line_of, GainsUnlessFailed};
+ghost use Rattle.pgcopy.specs.Report.{code_of, fault_status, status_of, fault_text, flags_text, kind_text, field_text, copy_fault_text, line_of, WroteUnlessFailed};
 
 use crate::words::WordFault;
 use itoa::Buffer;
@@ -89,9 +87,7 @@ impl Outcome {
 
 /// Writes the pieces, one behind the other.
 fn send_all<N: Sink>(notes: &mut N, pieces: &[&[u8]])
-    ensures gained { GainsUnlessFailed N.gained N.fault_count notes.old notes.new (flat_map (λ p. p.now) pieces.now) }
-    ensures faults { N.fault_count notes.old ≤ N.fault_count notes.new }
-    ensures origin { N.origin notes.new ≡ N.origin notes.old }
+    ensures gained { WroteUnlessFailed (N.state notes.old) (N.state notes.new) (flat_map (λ p. p.now) pieces.now) }
 {
     for piece in pieces {
         if send(notes, piece) < piece.len() {
@@ -150,9 +146,7 @@ fn kind_text(kind: Break) -> &'static [u8]
 
 /// Writes the line of a field: where it stands, and what is wrong with it.
 fn report_field<N: Sink>(row: u64, column: usize, text: &[u8], notes: &mut N)
-    ensures line { GainsUnlessFailed N.gained N.fault_count notes.old notes.new (field_text row column text.now ++ codes "\n") }
-    ensures faults { N.fault_count notes.old ≤ N.fault_count notes.new }
-    ensures origin { N.origin notes.new ≡ N.origin notes.old }
+    ensures line { WroteUnlessFailed (N.state notes.old) (N.state notes.new) (field_text row column text.now ++ codes "\n") }
 {
     let mut row_number = Buffer::new();
     let mut column_number = Buffer::new();
@@ -166,9 +160,7 @@ fn report_field<N: Sink>(row: u64, column: usize, text: &[u8], notes: &mut N)
 
 /// Writes the line of a stream that was not copied.
 fn report_fault<N: Sink>(fault: CopyFault, notes: &mut N)
-    ensures line { GainsUnlessFailed N.gained N.fault_count notes.old notes.new (copy_fault_text fault ++ codes "\n") }
-    ensures faults { N.fault_count notes.old ≤ N.fault_count notes.new }
-    ensures origin { N.origin notes.new ≡ N.origin notes.old }
+    ensures line { WroteUnlessFailed (N.state notes.old) (N.state notes.new) (copy_fault_text fault ++ codes "\n") }
 {
     let mut number = Buffer::new();
     match fault {
@@ -199,9 +191,7 @@ fn report_fault<N: Sink>(fault: CopyFault, notes: &mut N)
 
 /// Writes the line of an outcome. It takes no memory, and stops where `notes` fails.
 pub fn report<N: Sink>(outcome: Outcome, notes: &mut N)
-    ensures line { GainsUnlessFailed N.gained N.fault_count notes.old notes.new (line_of outcome) }
-    ensures faults { N.fault_count notes.old ≤ N.fault_count notes.new }
-    ensures origin { N.origin notes.new ≡ N.origin notes.old }
+    ensures line { WroteUnlessFailed (N.state notes.old) (N.state notes.new) (line_of outcome) }
 {
     let mut number = Buffer::new();
     match outcome {

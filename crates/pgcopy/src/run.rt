@@ -1,10 +1,9 @@
 ghost use Rattle.std.specs.Prelude.{◌≡◌, ◌≢◌, ◌≤◌, ◌↔◌, ◌⊎◌, ⊤, ℕ, true, option_map, IfOk, IfErr, IsErr, IsOkAnd};
-ghost use Rattle.std.specs.Io.KnownBytes.{Appends, IsAtEnd};
-ghost use Rattle.pgw_wire.specs.Outside.{HasFailed, Took, HasFront, HasNoFront, Gains, Wrote};
-ghost use Rattle.pgw_tree.specs.Causes.{IsCopied, fault_says};
+ghost use Rattle.pgw_wire.specs.Outside.{left, settled, HasFailed, Took, HasFront, HasNoFront, Gains};
 ghost use Rattle.pgw_tree.specs.Stream.{IsValidStream};
-ghost use Rattle.pgcopy.specs.Words.{plan_of};
-ghost use Rattle.pgcopy.specs.Report.{line_of, fault_status, status_of, GainsUnlessFailed};
+ghost use Rattle.pgcopy.specs.Words.{texts, PlanData, IsPlan, HasNoPlan, PlacedFault, IsFirstFault, plan_of};
+ghost use Rattle.pgcopy.specs.Runs.{CopiedRows, MetFault};
+ghost use Rattle.pgcopy.specs.Report.{line_of, fault_status, status_of, WroteUnlessFailed};
 
 use crate::report::{Outcome, Status, report};
 use crate::words::{WordError, read_words};
@@ -26,37 +25,27 @@ fn execute<S: Source, K: Sink>(
 
     ensures copied { status_of result ≡ Status.Copied
         → IsOkAnd (plan_of words.now) (λ plan. (n : ℕ) × (result ≡ Outcome.Copied n)
-        × Took (S.left source.old) (S.left source.new)
-        (IsCopied plan.limits plan.columns n (Appends (K.gained sink.old) (K.gained sink.new)))) }
+        × CopiedRows plan n (S.state source.old) (S.state source.new) (K.state sink.old) (K.state sink.new)) }
     ensures settled { status_of result ≡ Status.Copied
-        → K.settled sink.new ≡ option_map (λ _. true) (K.settled sink.old) }
+        → settled (K.state sink.new) ≡ option_map (λ _. true) (settled (K.state sink.old)) }
     ensures fault { status_of result ≢ Status.Copied → status_of result ≢ Status.Words
         → IsOkAnd (plan_of words.now) (λ plan. (fault : CopyFault) × (result ≡ Outcome.Fault fault)
-        × Took (S.left source.old) (S.left source.new)
-        (fault_says plan.limits plan.columns fault
-        (Wrote (K.gained sink.old) (K.gained sink.new) (K.settled sink.old) (K.settled sink.new)))
-        × (fault ≡ CopyFault.Truncated → IsAtEnd (S.left source.new))
-        × (fault ≡ CopyFault.ReadFault → HasFailed (S.fault_count source.old) (S.fault_count source.new))
-        × (fault ≡ CopyFault.WriteFault → HasFailed (K.fault_count sink.old) (K.fault_count sink.new))) }
+        × MetFault plan fault (S.state source.old) (S.state source.new) (K.state sink.old) (K.state sink.new)) }
     ensures known { status_of result ≢ Status.UnknownType }
 
     ensures complete { IfOk (plan_of words.now) (λ plan.
-        HasFront (S.left source.old) (IsValidStream plan.limits plan.columns)
-        → ¬ HasFailed (S.fault_count source.old) (S.fault_count source.new)
-        → ¬ HasFailed (K.fault_count sink.old) (K.fault_count sink.new)
+        HasFront (left (S.state source.old)) (IsValidStream plan.limits plan.columns)
+        → ¬ HasFailed (S.state source.old) (S.state source.new)
+        → ¬ HasFailed (K.state sink.old) (K.state sink.new)
         → (status_of result ≡ Status.Copied) ⊎ (status_of result ≡ Status.NoMemory)) }
     ensures refused { IfOk (plan_of words.now) (λ plan.
-        HasNoFront (S.left source.old) (IsValidStream plan.limits plan.columns)
-        → ¬ HasFailed (S.fault_count source.old) (S.fault_count source.new)
-        → ¬ HasFailed (K.fault_count sink.old) (K.fault_count sink.new)
+        HasNoFront (left (S.state source.old)) (IsValidStream plan.limits plan.columns)
+        → ¬ HasFailed (S.state source.old) (S.state source.new)
+        → ¬ HasFailed (K.state sink.old) (K.state sink.new)
         → (status_of result ≡ Status.Refused) ⊎ (status_of result ≡ Status.NoMemory)) }
 
-    ensures taken { Took (S.left source.old) (S.left source.new) (λ _. ⊤) }
-    ensures gained { Gains (K.gained sink.old) (K.gained sink.new) }
-    ensures source_faults { S.fault_count source.old ≤ S.fault_count source.new }
-    ensures source_origin { S.origin source.new ≡ S.origin source.old }
-    ensures sink_faults { K.fault_count sink.old ≤ K.fault_count sink.new }
-    ensures sink_origin { K.origin sink.new ≡ K.origin sink.old }
+    ensures taken { Took (S.state source.old) (S.state source.new) (λ _. ⊤) }
+    ensures gained { Gains (K.state sink.old) (K.state sink.new) }
 {
     match read_words(alloc, words) {
         Ok(plan) => match recopy_first(alloc, plan.columns.as_slice(), source, sink, plan.limits) {
@@ -103,54 +92,44 @@ pub fn run<S: Source, K: Sink, N: Sink>(
     notes: &mut N,
 ) -> Status
     // The words alone decide on status 1, and there nothing is read or written.
-    ensures words { (result ≡ Status.Words) ↔ IsErr (plan_of words.now) }
-    ensures words_line { IfErr (plan_of words.now) (λ f.
-        GainsUnlessFailed N.gained N.fault_count notes.old notes.new (line_of (Outcome.BadWord f.place f.fault))) }
-    ensures source_untouched { IfErr (plan_of words.now) (λ _. source.new ≡ source.old) }
-    ensures sink_untouched { IfErr (plan_of words.now) (λ _. sink.new ≡ sink.old) }
+    ensures words { (result ≡ Status.Words) ↔ HasNoPlan (texts words.now) }
+    ensures words_line { (wrong : PlacedFault) → IsFirstFault (texts words.now) wrong
+        → WroteUnlessFailed (N.state notes.old) (N.state notes.new) (line_of (Outcome.BadWord wrong.place wrong.fault)) }
+    ensures source_untouched { HasNoPlan (texts words.now) → source.new ≡ source.old }
+    ensures sink_untouched { HasNoPlan (texts words.now) → sink.new ≡ sink.old }
 
     // The bytes taken are one stream of exactly the rows that the line counts, and the bytes written are the
     // canonical stream of those rows.
     ensures copied { result ≡ Status.Copied
-        → IsOkAnd (plan_of words.now) (λ plan. (n : ℕ)
-        × GainsUnlessFailed N.gained N.fault_count notes.old notes.new (line_of (Outcome.Copied n))
-        × Took (S.left source.old) (S.left source.new)
-        (IsCopied plan.limits plan.columns n (Appends (K.gained sink.old) (K.gained sink.new)))) }
-    ensures settled { result ≡ Status.Copied → K.settled sink.new ≡ option_map (λ _. true) (K.settled sink.old) }
+        → (plan : PlanData) × IsPlan (texts words.now) plan × (n : ℕ)
+        × WroteUnlessFailed (N.state notes.old) (N.state notes.new) (line_of (Outcome.Copied n))
+        × CopiedRows plan n (S.state source.old) (S.state source.new) (K.state sink.old) (K.state sink.new) }
+    ensures settled { result ≡ Status.Copied
+        → settled (K.state sink.new) ≡ option_map (λ _. true) (settled (K.state sink.old)) }
 
     // Each other status is that of a fault, which its line tells, and which says what was taken and what was written.
     ensures fault { result ≢ Status.Copied → result ≢ Status.Words
-        → IsOkAnd (plan_of words.now) (λ plan. (fault : CopyFault) × (result ≡ fault_status fault)
-        × GainsUnlessFailed N.gained N.fault_count notes.old notes.new (line_of (Outcome.Fault fault))
-        × Took (S.left source.old) (S.left source.new)
-        (fault_says plan.limits plan.columns fault
-        (Wrote (K.gained sink.old) (K.gained sink.new) (K.settled sink.old) (K.settled sink.new)))
-        × (fault ≡ CopyFault.Truncated → IsAtEnd (S.left source.new))
-        × (fault ≡ CopyFault.ReadFault → HasFailed (S.fault_count source.old) (S.fault_count source.new))
-        × (fault ≡ CopyFault.WriteFault → HasFailed (K.fault_count sink.old) (K.fault_count sink.new))) }
+        → (plan : PlanData) × IsPlan (texts words.now) plan × (fault : CopyFault) × (result ≡ fault_status fault)
+        × WroteUnlessFailed (N.state notes.old) (N.state notes.new) (line_of (Outcome.Fault fault))
+        × MetFault plan fault (S.state source.old) (S.state source.new) (K.state sink.old) (K.state sink.new) }
     ensures known { result ≢ Status.UnknownType }
 
     // A valid stream is copied, and what begins with none is refused, unless memory runs out or an object outside failed.
-    ensures complete { IfOk (plan_of words.now) (λ plan.
-        HasFront (S.left source.old) (IsValidStream plan.limits plan.columns)
-        → ¬ HasFailed (S.fault_count source.old) (S.fault_count source.new)
-        → ¬ HasFailed (K.fault_count sink.old) (K.fault_count sink.new)
-        → (result ≡ Status.Copied) ⊎ (result ≡ Status.NoMemory)) }
-    ensures refused { IfOk (plan_of words.now) (λ plan.
-        HasNoFront (S.left source.old) (IsValidStream plan.limits plan.columns)
-        → ¬ HasFailed (S.fault_count source.old) (S.fault_count source.new)
-        → ¬ HasFailed (K.fault_count sink.old) (K.fault_count sink.new)
-        → (result ≡ Status.Refused) ⊎ (result ≡ Status.NoMemory)) }
+    ensures complete { (plan : PlanData) → IsPlan (texts words.now) plan
+        → HasFront (left (S.state source.old)) (IsValidStream plan.limits plan.columns)
+        → ¬ HasFailed (S.state source.old) (S.state source.new)
+        → ¬ HasFailed (K.state sink.old) (K.state sink.new)
+        → (result ≡ Status.Copied) ⊎ (result ≡ Status.NoMemory) }
+    ensures refused { (plan : PlanData) → IsPlan (texts words.now) plan
+        → HasNoFront (left (S.state source.old)) (IsValidStream plan.limits plan.columns)
+        → ¬ HasFailed (S.state source.old) (S.state source.new)
+        → ¬ HasFailed (K.state sink.old) (K.state sink.new)
+        → (result ≡ Status.Refused) ⊎ (result ≡ Status.NoMemory) }
 
     // What is left, whatever it answers.
-    ensures taken { Took (S.left source.old) (S.left source.new) (λ _. ⊤) }
-    ensures gained { Gains (K.gained sink.old) (K.gained sink.new) }
-    ensures source_faults { S.fault_count source.old ≤ S.fault_count source.new }
-    ensures source_origin { S.origin source.new ≡ S.origin source.old }
-    ensures sink_faults { K.fault_count sink.old ≤ K.fault_count sink.new }
-    ensures sink_origin { K.origin sink.new ≡ K.origin sink.old }
-    ensures notes_faults { N.fault_count notes.old ≤ N.fault_count notes.new }
-    ensures notes_origin { N.origin notes.new ≡ N.origin notes.old }
+    ensures taken { Took (S.state source.old) (S.state source.new) (λ _. ⊤) }
+    ensures gained { Gains (K.state sink.old) (K.state sink.new) }
+    ensures noted { Gains (N.state notes.old) (N.state notes.new) }
 {
     let outcome = execute(alloc, words, source, sink);
     report(outcome, notes);

@@ -57,8 +57,8 @@ pub struct Case {
     pub line: &'static [u8],
 }
 
-/// Streams that are copied.
-pub const COPIED: [Case; 6] = [
+/// Streams that are copied, and streams that are refused behind some rows.
+pub const CASES: [Case; 14] = [
     Case {
         words: WORDS,
         parts: &[(HEADER, HEADER)],
@@ -143,10 +143,7 @@ pub const COPIED: [Case; 6] = [
         status: Status::Copied,
         line: b"rows 3\n",
     },
-];
-
-/// Streams that are refused behind some rows.
-pub const REFUSED: [Case; 8] = [
+    // refused from here on
     Case {
         words: WORDS,
         parts: &[(HEADER, HEADER), (SEVEN, SEVEN), (NULL_TWO, NULL)],

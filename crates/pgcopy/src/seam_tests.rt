@@ -3,7 +3,7 @@
 
 use crate::report::Status;
 use crate::run::run;
-use crate::seam_cases::{COPIED, Case, HEADER, NULL, NULL_TWO, REFUSED};
+use crate::seam_cases::{CASES, Case, HEADER, NULL, NULL_TWO};
 use pgw_wire::{BufReadSource, MemorySink, MemorySource, QuietSource, Sink, Source};
 use std::alloc::{AllocError, Global};
 use std::io;
@@ -138,163 +138,93 @@ fn run_on<R: Abort, S: Source>(
     read_failed || write_failed
 }
 
-/// Runs over a source that shows no bytes.
-fn over_memory(rt: &impl Abort, alloc: Global, prepared: &Prepared, calls: Calls) -> bool {
-    let bytes = prepared.input.to_vec(alloc).expect(rt, "memory");
-    let cuts = cuts_of(alloc, calls.read_most).expect(rt, "memory");
-    let fails = [calls.read_fail].to_vec(alloc).expect(rt, "memory");
-    let mut source = MemorySource::new(bytes, cuts, fails);
-    run_on(rt, alloc, prepared, &mut source, calls)
+/// What a case is run over: a source that shows no bytes, one that shows all, or one that shows what stands in its buffer
+/// of so many bytes.
+#[derive(Clone, Copy)]
+enum Over {
+    Memory,
+    Quiet,
+    Buffer(usize),
 }
 
-/// Runs over a source that shows all its bytes.
-fn over_quiet(rt: &impl Abort, alloc: Global, prepared: &Prepared, calls: Calls) -> bool {
-    let bytes = prepared.input.to_vec(alloc).expect(rt, "memory");
-    let mut source = QuietSource::new(bytes);
-    run_on(rt, alloc, prepared, &mut source, calls)
-}
-
-/// Runs over a source that shows what stands in its buffer of so many bytes.
-fn over_buffer(
-    rt: &impl Abort,
-    alloc: Global,
-    prepared: &Prepared,
-    capacity: usize,
-    calls: Calls,
-) -> bool {
-    let pieces = Pieces {
-        rest: &prepared.input,
-        most: calls.read_most,
-        fail: calls.read_fail,
-        calls: 0,
-    };
-    let reader = BufReader::with_capacity(alloc, capacity, pieces).expect(rt, "memory");
-    let mut source = BufReadSource::new(reader);
-    run_on(rt, alloc, prepared, &mut source, calls)
-}
-
-/// The calls of which the read with this number fails.
-fn read_fails(read_most: usize, read_fail: u64, write_most: usize) -> Calls {
-    Calls {
-        read_most,
-        read_fail,
-        write_most,
-        write_fail: NEVER,
-    }
-}
-
-/// The calls of which the write or the flush with this number fails.
-fn write_fails(read_most: usize, write_most: usize, write_fail: u64) -> Calls {
-    Calls {
-        read_most,
-        read_fail: NEVER,
-        write_most,
-        write_fail,
-    }
-}
-
-/// Lets each read fail in turn, over a source that shows no bytes.
-fn break_reads_over_memory(rt: &impl Abort, alloc: Global, case: Case, most: usize) {
-    let prepared = prepare(alloc, case).expect(rt, "memory");
-    let mut failed = true;
-    for call in 0..CALLS {
-        if failed {
-            failed = over_memory(rt, alloc, &prepared, read_fails(most, call as u64, 4096));
+/// Runs over such a source.
+fn run_over(rt: &impl Abort, alloc: Global, prepared: &Prepared, over: Over, calls: Calls) -> bool {
+    match over {
+        Over::Memory => {
+            let bytes = prepared.input.to_vec(alloc).expect(rt, "memory");
+            let cuts = cuts_of(alloc, calls.read_most).expect(rt, "memory");
+            let fails = [calls.read_fail].to_vec(alloc).expect(rt, "memory");
+            let mut source = MemorySource::new(bytes, cuts, fails);
+            run_on(rt, alloc, prepared, &mut source, calls)
+        }
+        Over::Quiet => {
+            let bytes = prepared.input.to_vec(alloc).expect(rt, "memory");
+            let mut source = QuietSource::new(bytes);
+            run_on(rt, alloc, prepared, &mut source, calls)
+        }
+        Over::Buffer(capacity) => {
+            let pieces = Pieces {
+                rest: &prepared.input,
+                most: calls.read_most,
+                fail: calls.read_fail,
+                calls: 0,
+            };
+            let reader = BufReader::with_capacity(alloc, capacity, pieces).expect(rt, "memory");
+            let mut source = BufReadSource::new(reader);
+            run_on(rt, alloc, prepared, &mut source, calls)
         }
     }
-    assert!(rt; !failed);
 }
 
-/// Lets each read fail in turn, over a source that shows its buffer.
-fn break_reads_over_buffer(
-    rt: &impl Abort,
-    alloc: Global,
-    case: Case,
-    capacity: usize,
-    most: usize,
-) {
-    let prepared = prepare(alloc, case).expect(rt, "memory");
-    let mut failed = true;
-    for call in 0..CALLS {
-        if failed {
-            let calls = read_fails(most, call as u64, 4096);
-            failed = over_buffer(rt, alloc, &prepared, capacity, calls);
-        }
+/// Which call fails.
+#[derive(Clone, Copy)]
+enum Failing {
+    Read,
+    Write,
+}
+
+/// The calls of which the one with this number fails, a read, or a write or flush. Each moves at most so many bytes.
+fn calls_of(failing: Failing, most: usize, call: u64) -> Calls {
+    match failing {
+        Failing::Read => Calls {
+            read_most: most,
+            read_fail: call,
+            write_most: 4096,
+            write_fail: NEVER,
+        },
+        Failing::Write => Calls {
+            read_most: 4096,
+            read_fail: NEVER,
+            write_most: most,
+            write_fail: call,
+        },
     }
-    assert!(rt; !failed);
 }
 
-/// Lets each write and flush fail in turn, over a source that shows no bytes.
-fn break_writes_over_memory(rt: &impl Abort, alloc: Global, case: Case, most: usize) {
-    let prepared = prepare(alloc, case).expect(rt, "memory");
-    let mut failed = true;
-    for call in 0..CALLS {
-        if failed {
-            failed = over_memory(rt, alloc, &prepared, write_fails(4096, most, call as u64));
+/// Lets each read of each case fail in turn, or each write and flush. Each moves at most so many bytes.
+fn break_calls(rt: &impl Abort, alloc: Global, over: Over, failing: Failing, most: usize) {
+    for case in CASES {
+        let prepared = prepare(alloc, case).expect(rt, "memory");
+        let mut failed = true;
+        for call in 0..CALLS {
+            if failed {
+                let calls = calls_of(failing, most, call as u64);
+                failed = run_over(rt, alloc, &prepared, over, calls);
+            }
         }
+        assert!(rt; !failed);
     }
-    assert!(rt; !failed);
 }
 
-/// Lets each write and flush fail in turn, over a source that shows all its bytes.
-fn break_writes_over_quiet(rt: &impl Abort, alloc: Global, case: Case, most: usize) {
-    let prepared = prepare(alloc, case).expect(rt, "memory");
-    let mut failed = true;
-    for call in 0..CALLS {
-        if failed {
-            failed = over_quiet(rt, alloc, &prepared, write_fails(4096, most, call as u64));
-        }
-    }
-    assert!(rt; !failed);
-}
-
-/// Lets each write and flush fail in turn, over a source that shows its buffer.
-fn break_writes_over_buffer(
-    rt: &impl Abort,
-    alloc: Global,
-    case: Case,
-    capacity: usize,
-    most: usize,
-) {
-    let prepared = prepare(alloc, case).expect(rt, "memory");
-    let mut failed = true;
-    for call in 0..CALLS {
-        if failed {
-            let calls = write_fails(4096, most, call as u64);
-            failed = over_buffer(rt, alloc, &prepared, capacity, calls);
-        }
-    }
-    assert!(rt; !failed);
-}
-
-// The sink has the header and the rows that were taken whole.
+// The sink has the header and the rows that were taken whole. Each read fills the buffer, where there is one, or a part.
 #[test]
-fn failed_read_is_told_where_no_bytes_are_shown(rt: HostRuntime) {
+fn failed_read_is_told(rt: HostRuntime) {
     for most in [1, 7, 4096] {
-        for case in COPIED {
-            break_reads_over_memory(&rt, rt.alloc(), case, most);
-        }
-        for case in REFUSED {
-            break_reads_over_memory(&rt, rt.alloc(), case, most);
-        }
+        break_calls(&rt, rt.alloc(), Over::Memory, Failing::Read, most);
     }
-}
-
-#[test]
-fn failed_read_is_told_behind_any_buffer(rt: HostRuntime) {
     for capacity in 0..41 {
-        for case in COPIED {
-            break_reads_over_buffer(&rt, rt.alloc(), case, capacity, 4096);
-        }
-        for case in REFUSED {
-            break_reads_over_buffer(&rt, rt.alloc(), case, capacity, 4096);
-        }
+        break_calls(&rt, rt.alloc(), Over::Buffer(capacity), Failing::Read, 4096);
     }
-}
-
-// Each read fills the buffer in part.
-#[test]
-fn failed_read_is_told_behind_a_buffer_that_is_not_full(rt: HostRuntime) {
     for (capacity, most) in [
         (2, 1),
         (40, 1),
@@ -304,12 +234,7 @@ fn failed_read_is_told_behind_a_buffer_that_is_not_full(rt: HostRuntime) {
         (40, 33),
         (4096, 50),
     ] {
-        for case in COPIED {
-            break_reads_over_buffer(&rt, rt.alloc(), case, capacity, most);
-        }
-        for case in REFUSED {
-            break_reads_over_buffer(&rt, rt.alloc(), case, capacity, most);
-        }
+        break_calls(&rt, rt.alloc(), Over::Buffer(capacity), Failing::Read, most);
     }
 }
 
@@ -317,52 +242,26 @@ fn failed_read_is_told_behind_a_buffer_that_is_not_full(rt: HostRuntime) {
 #[test]
 fn failed_write_is_told(rt: HostRuntime) {
     for most in [1, 7, 4096] {
-        for case in COPIED {
-            break_writes_over_memory(&rt, rt.alloc(), case, most);
-            break_writes_over_quiet(&rt, rt.alloc(), case, most);
-        }
-        for case in REFUSED {
-            break_writes_over_memory(&rt, rt.alloc(), case, most);
-            break_writes_over_quiet(&rt, rt.alloc(), case, most);
-        }
+        break_calls(&rt, rt.alloc(), Over::Memory, Failing::Write, most);
+        break_calls(&rt, rt.alloc(), Over::Quiet, Failing::Write, most);
     }
-}
-
-#[test]
-fn failed_write_is_told_behind_any_buffer(rt: HostRuntime) {
     for capacity in 0..41 {
-        for case in COPIED {
-            break_writes_over_buffer(&rt, rt.alloc(), case, capacity, 7);
-        }
-        for case in REFUSED {
-            break_writes_over_buffer(&rt, rt.alloc(), case, capacity, 4096);
-        }
+        break_calls(&rt, rt.alloc(), Over::Buffer(capacity), Failing::Write, 7);
     }
-}
-
-#[test]
-fn write_that_fails_at_any_byte_is_told_behind_a_buffer(rt: HostRuntime) {
     for capacity in [1, 17, 31, 40] {
-        for case in COPIED {
-            break_writes_over_buffer(&rt, rt.alloc(), case, capacity, 1);
-        }
+        break_calls(&rt, rt.alloc(), Over::Buffer(capacity), Failing::Write, 1);
     }
 }
 
-// The first read gives exactly the bytes that suffice, and the second fails.
+// The first read gives exactly the bytes that suffice, and the second fails: it is made only where they end too early.
 #[test]
 fn no_read_is_made_behind_the_bytes_that_suffice(rt: HostRuntime) {
     let alloc = rt.alloc();
-    for case in COPIED {
+    for case in CASES {
         let prepared = prepare(alloc, case).expect(&rt, "memory");
-        let calls = read_fails(case.taken_at(usize::MAX), 1, 4096);
-        assert!(rt; !over_buffer(&rt, alloc, &prepared, 4096, calls));
-    }
-    for case in REFUSED {
-        let prepared = prepare(alloc, case).expect(&rt, "memory");
-        let calls = read_fails(case.taken_at(usize::MAX), 1, 4096);
+        let calls = calls_of(Failing::Read, case.taken_at(usize::MAX), 1);
         let is_cut = case.line == b"truncated\n".as_slice();
-        assert_eq!(rt; over_buffer(&rt, alloc, &prepared, 4096, calls), is_cut);
+        assert!(rt; run_over(&rt, alloc, &prepared, Over::Buffer(4096), calls) == is_cut);
     }
 }
 
@@ -399,7 +298,7 @@ fn rows_through_the_one_in_which_the_sink_failed_are_taken(rt: HostRuntime) {
         (79, 81),
         (81, 81),
     ] {
-        assert_eq!(rt; taken_behind(&rt, alloc, COPIED[1], written), taken);
+        assert_eq!(rt; taken_behind(&rt, alloc, CASES[1], written), taken);
     }
     for (written, taken) in [
         (18, 19),
@@ -414,7 +313,7 @@ fn rows_through_the_one_in_which_the_sink_failed_are_taken(rt: HostRuntime) {
         (81, 110),
         (82, 110),
     ] {
-        assert_eq!(rt; taken_behind(&rt, alloc, COPIED[3], written), taken);
+        assert_eq!(rt; taken_behind(&rt, alloc, CASES[3], written), taken);
     }
 }
 
@@ -432,7 +331,7 @@ fn repeated(alloc: Global, row: &[u8], many: usize, tail: &[u8]) -> Result<Vec<u
 #[test]
 fn many_rows_that_are_spelled_otherwise_are_copied(rt: HostRuntime) {
     let alloc = rt.alloc();
-    let prepared = prepare(alloc, COPIED[2]).expect(&rt, "memory");
+    let prepared = prepare(alloc, CASES[2]).expect(&rt, "memory");
     let output = repeated(alloc, NULL, 3000, b"\xff\xff").expect(&rt, "memory");
     for (fail, status, line) in [
         (NEVER, Status::Copied, b"rows 3000\n".as_slice()),

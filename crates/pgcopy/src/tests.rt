@@ -2,6 +2,7 @@ use crate::report::Status;
 use crate::run::run;
 use pgw_wire::{MemorySink, MemorySource, Sink};
 use std::alloc::{AllocError, Global};
+use std::process::Abort;
 
 // a header without flags and extension
 const HEADER: &[u8] = b"PGCOPY\n\xff\r\n\0\0\0\0\0\0\0\0\0";
@@ -56,6 +57,13 @@ fn run_on(
     })
 }
 
+/// Fails where a run ended otherwise.
+fn assert_ended(rt: &impl Abort, ended: &Ended, status: Status, line: &[u8], output: &[u8]) {
+    assert_eq!(rt; ended.status, status);
+    assert_eq!(rt; ended.line.gained(), line);
+    assert_eq!(rt; ended.output.gained(), output);
+}
+
 #[test]
 fn words_that_are_wrong_are_told(rt: HostRuntime) {
     let table: [(&[&str], &[u8]); 6] = [
@@ -71,9 +79,7 @@ fn words_that_are_wrong_are_told(rt: HostRuntime) {
     ];
     for (words, line) in table {
         let ended = run_on(rt.alloc(), words, ONE_ROW, &[], &[], &[]).expect(&rt, "memory");
-        assert_eq!(rt; ended.status, Status::Words);
-        assert_eq!(rt; ended.line.gained(), line);
-        assert_eq!(rt; ended.output.gained(), b"".as_slice());
+        assert_ended(&rt, &ended, Status::Words, line, b"");
         assert_eq!(rt; ended.taken, 0);
     }
 }
@@ -85,10 +91,12 @@ fn too_many_columns_are_told(rt: HostRuntime) {
     let most = run_on(rt.alloc(), &words[..32768], EMPTY, &[], &[], &[]).expect(&rt, "memory");
     assert_eq!(rt; most.status, Status::Copied);
     let ended = run_on(rt.alloc(), &words, EMPTY, &[], &[], &[]).expect(&rt, "memory");
-    assert_eq!(rt; ended.status, Status::Words);
-    assert_eq!(rt;
-        ended.line.gained(),
-        b"word 32769: schema fault 2\n".as_slice()
+    assert_ended(
+        &rt,
+        &ended,
+        Status::Words,
+        b"word 32769: schema fault 2\n",
+        b"",
     );
 }
 
@@ -139,9 +147,7 @@ fn streams_are_copied(rt: HostRuntime) {
     ];
     for (words, input, output, line, taken) in table {
         let ended = run_on(rt.alloc(), words, input, &[], &[], &[]).expect(&rt, "memory");
-        assert_eq!(rt; ended.status, Status::Copied);
-        assert_eq!(rt; ended.line.gained(), line);
-        assert_eq!(rt; ended.output.gained(), output);
+        assert_ended(&rt, &ended, Status::Copied, line, output);
         assert_eq!(rt; ended.taken, taken);
     }
 }
@@ -152,43 +158,28 @@ fn streams_are_copied(rt: HostRuntime) {
 fn faults_outside_are_told(rt: HostRuntime) {
     let rows: &[u8] =
         b"PGCOPY\n\xff\r\n\0\0\0\0\0\0\0\0\0\0\x01\0\0\0\x04\0\0\0\x2a\0\x01\0\0\0\x04\0\0\0\x2b\xff\xff";
-    let table: [(u64, &[u8], usize); 4] = [
-        (0, b"", 0),
-        (1, &rows[..19], 19),
-        (2, &rows[..19], 21),
-        (5, &rows[..29], 31),
+    let table: [(&[u64], &[u64], &[u8], &[u8], usize); 8] = [
+        (&[0], &[], b"read fault\n", b"", 0),
+        (&[1], &[], b"read fault\n", &rows[..19], 19),
+        (&[2], &[], b"read fault\n", &rows[..19], 21),
+        (&[5], &[], b"read fault\n", &rows[..29], 31),
+        (&[], &[0], b"write fault\n", b"", 19),
+        (&[], &[2], b"write fault\n", &rows[..29], 39),
+        (&[], &[3], b"write fault\n", &rows[..39], 41),
+        (&[], &[4], b"write fault\n", rows, 41),
     ];
-    for (call, output, taken) in table {
-        let ended = run_on(rt.alloc(), &["copy", "int4"], rows, &[], &[call], &[]).expect(
-            &rt, "memory",
-        );
-        assert_eq!(rt; ended.status, Status::Outside, "read {call}");
-        assert_eq!(rt;
-            ended.line.gained(),
-            b"read fault\n".as_slice(),
-            "read {call}"
-        );
-        assert_eq!(rt; ended.output.gained(), output, "read {call}");
-        assert_eq!(rt; ended.taken, taken, "read {call}");
-    }
-    let table: [(u64, &[u8], usize); 4] = [
-        (0, b"", 19),
-        (2, &rows[..29], 39),
-        (3, &rows[..39], 41),
-        (4, rows, 41),
-    ];
-    for (call, output, taken) in table {
-        let ended = run_on(rt.alloc(), &["copy", "int4"], rows, &[], &[], &[call]).expect(
-            &rt, "memory",
-        );
-        assert_eq!(rt; ended.status, Status::Outside, "write {call}");
-        assert_eq!(rt;
-            ended.line.gained(),
-            b"write fault\n".as_slice(),
-            "write {call}"
-        );
-        assert_eq!(rt; ended.output.gained(), output, "write {call}");
-        assert_eq!(rt; ended.taken, taken, "write {call}");
+    for (read_fails, write_fails, line, output, taken) in table {
+        let ended = run_on(
+            rt.alloc(),
+            &["copy", "int4"],
+            rows,
+            &[],
+            read_fails,
+            write_fails,
+        )
+        .expect(&rt, "memory");
+        assert_ended(&rt, &ended, Status::Outside, line, output);
+        assert_eq!(rt; ended.taken, taken);
     }
 }
 
@@ -233,10 +224,8 @@ fn no_call_is_made_that_is_not_needed(rt: HostRuntime) {
     ];
     for (words, input, call, taken, written, line) in table {
         let ended = run_on(rt.alloc(), words, input, &[], &[call], &[]).expect(&rt, "memory");
-        assert_eq!(rt; ended.status, Status::Refused, "at {taken}");
-        assert_eq!(rt; ended.line.gained(), line, "at {taken}");
+        assert_ended(&rt, &ended, Status::Refused, line, written);
         assert_eq!(rt; ended.taken, taken);
-        assert_eq!(rt; ended.output.gained(), written, "at {taken}");
     }
 }
 
@@ -278,9 +267,7 @@ fn streams_that_are_refused_are_told(rt: HostRuntime) {
     ];
     for (words, input, output, line) in table {
         let ended = run_on(rt.alloc(), words, input, &[], &[], &[]).expect(&rt, "memory");
-        assert_eq!(rt; ended.line.gained(), line);
-        assert_eq!(rt; ended.status, Status::Refused);
-        assert_eq!(rt; ended.output.gained(), output);
+        assert_ended(&rt, &ended, Status::Refused, line, output);
     }
 }
 
@@ -305,9 +292,7 @@ fn fields_that_spell_no_value_are_refused(rt: HostRuntime) {
         let ended = run_on(rt.alloc(), &["copy", column], &input, &[], &[], &[]).expect(
             &rt, "memory",
         );
-        assert_eq!(rt; ended.status, Status::Refused);
-        assert_eq!(rt; ended.line.gained(), line);
-        assert_eq!(rt; ended.output.gained(), HEADER);
+        assert_ended(&rt, &ended, Status::Refused, line, HEADER);
     }
 }
 
@@ -325,14 +310,18 @@ fn stream_cut_anywhere_is_refused(rt: HostRuntime) {
             &[],
         )
         .expect(&rt, "memory");
-        assert_eq!(rt; ended.status, Status::Refused, "at {len}");
-        assert_eq!(rt; ended.line.gained(), b"truncated\n".as_slice(), "at {len}");
         let written = match len {
             0..19 => 0,
             19..29 => 19,
             _ => 29,
         };
-        assert_eq!(rt; ended.output.gained(), &whole[..written], "at {len}");
+        assert_ended(
+            &rt,
+            &ended,
+            Status::Refused,
+            b"truncated\n",
+            &whole[..written],
+        );
     }
 }
 
@@ -353,9 +342,16 @@ fn limit_is_met_at_the_next_count(rt: HostRuntime) {
         let ended = run_on(rt.alloc(), words, &TWO_ROWS[..len], &[1; 80], &[], &[]).expect(
             &rt, "memory",
         );
-        assert_eq!(rt; ended.status, Status::Refused, "at {len}");
-        assert_eq!(rt; ended.line.gained(), line, "at {len}");
-        assert_eq!(rt; ended.output.gained(), &TWO_ROWS[..written], "at {len}");
+        assert_ended(&rt, &ended, Status::Refused, line, &TWO_ROWS[..written]);
+    }
+}
+
+/// Fails where a run in which one call failed, or none, neither told that nor the other line.
+fn assert_failed(rt: &impl Abort, ended: &Ended, failed: &[u8], line: &[u8]) {
+    let told = ended.line.gained();
+    match ended.status {
+        Status::Outside => assert!(rt; told == failed),
+        _ => assert!(rt; ended.status == Status::Refused && told == line),
     }
 }
 
@@ -371,36 +367,16 @@ fn call_that_fails_once_is_told(rt: HostRuntime) {
                 &rt, "memory",
             );
             let output = ended.output.gained();
+            assert_failed(&rt, &ended, b"read fault\n", line);
             assert!(rt; output.is_empty() || output == HEADER || output == &ONE_ROW[..29]);
-            if ended.status == Status::Outside {
-                assert_eq!(rt;
-                    ended.line.gained(),
-                    b"read fault\n".as_slice(),
-                    "read {call}"
-                );
-            } else {
-                assert_eq!(rt; ended.status, Status::Refused, "read {call}");
-                assert_eq!(rt; ended.line.gained(), line, "read {call}");
-            }
 
             let ended = run_on(rt.alloc(), words, input, &[1; 80], &[], &[call]).expect(
                 &rt, "memory",
             );
-            assert!(rt;
-                ONE_ROW[..29].starts_with(ended.output.gained()),
-                "write {call}"
-            );
-            if ended.status == Status::Outside {
-                assert_eq!(rt;
-                    ended.line.gained(),
-                    b"write fault\n".as_slice(),
-                    "write {call}"
-                );
-                assert_eq!(rt; ended.output.gained().len() as u64, call, "write {call}");
-            } else {
-                assert_eq!(rt; ended.status, Status::Refused, "write {call}");
-                assert_eq!(rt; ended.line.gained(), line, "write {call}");
-            }
+            let output = ended.output.gained();
+            assert_failed(&rt, &ended, b"write fault\n", line);
+            assert!(rt; ONE_ROW[..29].starts_with(output));
+            assert!(rt; ended.status != Status::Outside || output.len() as u64 == call);
         }
     }
 }

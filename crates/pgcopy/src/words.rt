@@ -1,49 +1,56 @@
-ghost use Rattle.std.specs.Prelude.{◌≡◌, ℕ, ◌≤◌, ◌<◌, List, [], ◌∷◌, ◌++◌, length, map, string_bytes, Option, Some, None, option_map, Ok, Err, true, IfOk, IfErr, IfSome, IsOk, MatchResult};
+ghost use Rattle.std.specs.Prelude.{◌≡◌, ◌↔◌, ℕ, ◌≤◌, ◌<◌, List, [], ◌∷◌, ◌++◌, length, map, string_bytes, codes, Option, Some, None, option_map, Ok, Err, true, IfOk, IfErr, IfSome, IsOk, MatchResult};
 ghost use Rattle.std.specs.List.{filter_map, list_all};
 ghost use Rattle.std.specs.Option.{unwrap_or};
-ghost use Rattle.pgw_tree.specs.Tree.{shape, shapes, columns_of};
+ghost use Rattle.pgw_tree.specs.Tree.{shape, shapes};
 ghost use Rattle.pgw_tree.specs.Limits.{default_limits};
-ghost use Rattle.pgcopy.specs.Words.{type_of, behind, is_option, number_of, option_fault, word_fault, first_fault, plan_of};
+ghost use Rattle.pgcopy.specs.Words.{type_of, behind, is_option, number_of, option_fault, word_fault, first_fault, PlanData, IsPlan, HasNoPlan, PlacedFault, IsFirstFault, plan_of};
 ghost use Rattle.pgcopy.specs.WordsRead.{AreRead};
 
-use pgw_tree::{FirstList, FirstType, Limits};
+use pgw_tree::{FIELD_MAX, FirstList, FirstType, Limits};
 use pgw_wire::NoMemory;
 use std::alloc::Global;
+use thiserror::Error;
 
 /// The most rows, where no word limits them.
 const ROWS_MAX: u64 = u64::MAX;
-
-/// The longest field that PostgreSQL's format can state.
-const FIELD_MAX: u64 = 2147483647;
 
 /// How many columns a row has at most: its count of fields has 16 bits with a sign.
 const COLUMNS_MAX: usize = 32767;
 
 /// What is wrong with the words of a command line.
-#[derive(Clone, Copy, Debug, PartialEq, Eq)]
+#[derive(Clone, Copy, Debug, PartialEq, Eq, Error)]
 pub enum WordFault {
     /// There are no words.
+    #[error("missing command")]
     NoCommand,
     /// The first word is no command.
+    #[error("unknown command")]
     UnknownCommand,
     /// The digits of an option are no number that it may have.
+    #[error("bad number")]
     BadNumber,
     /// The option stands before it already.
+    #[error("repeated option")]
     Repeated,
     /// The command has no column types.
+    #[error("missing type")]
     NoTypes,
     /// The types make no schema, by the number of the fault. 2: there are more than 32767 columns.
+    #[error("schema fault {0}")]
     Schema(u8),
     /// The word is none that is read yet: it names no such type, or is an option `oid=`.
+    #[error("not supported yet")]
     NotYet,
 }
 
 /// Why the words gave no plan.
-#[derive(Clone, Copy, Debug, PartialEq, Eq)]
+#[derive(Clone, Copy, Debug, PartialEq, Eq, Error)]
 pub enum WordError {
     /// What is wrong first, and the place of its word, counted from 0.
+    #[error("word {place}: {fault}")]
     Fault { place: usize, fault: WordFault },
     /// Memory was asked for and refused.
+    #[error("out of memory")]
     NoMemory,
 }
 
@@ -74,21 +81,17 @@ struct WordsRead {
     types: usize,
 }
 
-/// The column type that a word names.
+/// The column type that a word names. With a `?` at its end the column may be null.
 fn type_of(word: &str) -> Option<FirstType>
     ensures { option_map shape result ≡ type_of word.now }
 {
-    if word == "int4" {
-        Some(FirstType::Int4)
-    } else if word == "int4?" {
-        Some(FirstType::Int4Null)
-    } else if word == "text" {
-        Some(FirstType::Text)
-    } else if word == "text?" {
-        Some(FirstType::TextNull)
-    } else {
-        None
-    }
+    let marked = word.strip_suffix('?');
+    let (plain, nullable) = match marked.unwrap_or(word) {
+        "int4" => (FirstType::Int4, FirstType::Int4Null),
+        "text" => (FirstType::Text, FirstType::TextNull),
+        _ => return None,
+    };
+    Some(if marked.is_some() { nullable } else { plain })
 }
 
 /// What stands in a word behind a text, where it begins with it.
@@ -140,7 +143,7 @@ fn read_option(seen: WordsRead, word: &str) -> Result<WordsRead, WordFault>
             ..seen
         })
     } else if let Some(digits) = behind(word, "field=") {
-        let field = number_of(digits, FIELD_MAX, seen.field.is_some())?;
+        let field = number_of(digits, FIELD_MAX as u64, seen.field.is_some())?;
         Ok(WordsRead {
             field: Some(field),
             ..seen
@@ -169,11 +172,12 @@ fn read_word(seen: WordsRead, word: &str) -> Result<WordsRead, WordFault>
     }
 }
 
-/// Reads the words behind the command. An error has its place.
+/// Reads the words behind the command. An error has its place, counted from the command.
 fn read_behind(words: &[String]) -> Result<WordsRead, (usize, WordFault)>
-    ensures ok { IfOk result (λ seen. (first_fault [] (map string_bytes words.now) ≡ None)
-        × AreRead seen (map string_bytes words.now)) }
-    ensures err { IfErr result (λ e. first_fault [] (map string_bytes words.now)
+    ensures ok { IfOk result (λ seen. AreRead seen (map string_bytes words.now)
+        × (first_fault (codes "copy" ∷ []) (map string_bytes words.now)
+        ≡ first_fault (codes "copy" ∷ map string_bytes words.now) [])) }
+    ensures err { IfErr result (λ e. first_fault (codes "copy" ∷ []) (map string_bytes words.now)
         ≡ Some (record { place = e.0; fault = e.1 })) }
 {
     let mut seen = WordsRead {
@@ -190,9 +194,39 @@ fn read_behind(words: &[String]) -> Result<WordsRead, (usize, WordFault)>
     Ok(seen)
 }
 
+/// Reads all words, the command too. An error has its place.
+fn read_all(words: &[String]) -> Result<WordsRead, (usize, WordFault)>
+    ensures ok { IfOk result (λ seen. plan_of words.now ≡ Ok (record {
+      limits = record {
+        rows_max = unwrap_or seen.rows default_limits.rows_max;
+        field_max = unwrap_or seen.field default_limits.field_max;
+      };
+      columns = filter_map type_of (map string_bytes words.now);
+    })) }
+    ensures field { IfOk result (λ seen. IfSome seen.field (λ field. field ≤ 2147483647)) }
+    ensures some { IfOk result (λ seen. 1 ≤ length (filter_map type_of (map string_bytes words.now))) }
+    ensures few { IfOk result (λ seen. length (filter_map type_of (map string_bytes words.now)) ≤ 32767) }
+    ensures err { IfErr result (λ e. plan_of words.now ≡ Err (record { place = e.0; fault = e.1 })) }
+{
+    let Some((command, rest)) = words.split_first() else {
+        return Err((0, WordFault::NoCommand));
+    };
+    if command.as_str() != "copy" {
+        return Err((0, WordFault::UnknownCommand));
+    }
+    let seen = read_behind(rest)?;
+    if seen.types == 0 {
+        return Err((words.len(), WordFault::NoTypes));
+    }
+    if seen.types > COLUMNS_MAX {
+        return Err((words.len(), WordFault::Schema(2)));
+    }
+    Ok(seen)
+}
+
 /// The types that the words name, in their order.
 fn known_types(alloc: Global, words: &[String]) -> Result<FirstList, NoMemory>
-    ensures { IfOk result (λ columns. shapes (columns_of columns) ≡ filter_map type_of (map string_bytes words.now)) }
+    ensures { IfOk result (λ columns. shapes columns ≡ filter_map type_of (map string_bytes words.now)) }
 {
     let mut columns = FirstList::new(alloc);
     for word in words {
@@ -212,51 +246,43 @@ fn limits_from(seen: WordsRead) -> Limits
     } }
 {
     let rows = seen.rows.unwrap_or(ROWS_MAX);
-    let field = seen.field.unwrap_or(FIELD_MAX);
+    let field = seen.field.unwrap_or(FIELD_MAX as u64);
     Limits::new(rows, field as u32).unwrap()
 }
 
-/// What the words ask for: the command `copy`, which is the only one, then options, and then a type for each column.
+/// What the words ask for: the command `copy`, which is the only one, then options, each at most once, and then a type
+/// for each column. `IsPlan` says it.
 ///
-/// Memory is asked for only where nothing is wrong with the words.
+/// Where no plan is what they ask for, the error is their first fault from the left. `IsFirstFault` says which that is.
+/// Memory is asked for only where there is a plan.
+#[tactic(auto, using(crate::proofs::Plans::found_is_plan, crate::proofs::Plans::found_is_first))]
 pub fn read_words(alloc: Global, words: &[String]) -> Result<Plan, WordError>
     ensures plan { IfOk result (λ plan. plan_of words.now
-        ≡ Ok (record { limits = plan.limits; columns = shapes (columns_of plan.columns) })) }
-    ensures some { IfOk result (λ plan. 1 ≤ length (columns_of plan.columns)) }
-    ensures few { IfOk result (λ plan. length (columns_of plan.columns) ≤ 32767) }
+        ≡ Ok (record { limits = plan.limits; columns = shapes plan.columns })) }
+    ensures is_plan { IfOk result (λ plan. IsPlan (map string_bytes words.now)
+        (record { limits = plan.limits; columns = shapes plan.columns })) }
+    ensures some { IfOk result (λ plan. 1 ≤ length plan.columns) }
+    ensures few { IfOk result (λ plan. length plan.columns ≤ 32767) }
     ensures fault { (place : _) (fault : _) → result ≡ Err (WordError.Fault place fault)
         → plan_of words.now ≡ Err (record { place = place; fault = fault }) }
+    ensures no_plan { (place : _) (fault : _) → result ≡ Err (WordError.Fault place fault)
+        → HasNoPlan (map string_bytes words.now) }
+    ensures first_fault { (place : _) (fault : _) → result ≡ Err (WordError.Fault place fault)
+        → IsFirstFault (map string_bytes words.now) (record { place = place; fault = fault }) }
     ensures no_memory { result ≡ Err WordError.NoMemory → IsOk (plan_of words.now) }
+    ensures with_plan { result ≡ Err WordError.NoMemory
+        → (plan : PlanData) × IsPlan (map string_bytes words.now) plan }
+
+    // `plan_of` is the plan where there is one, and else the first fault.
+    ensures plans { (plan : PlanData) → (plan_of words.now ≡ Ok plan) ↔ IsPlan (map string_bytes words.now) plan }
+    ensures faults { (fault : PlacedFault)
+        → (plan_of words.now ≡ Err fault) ↔ IsFirstFault (map string_bytes words.now) fault }
 {
-    let Some((command, rest)) = words.split_first() else {
-        return Err(WordError::Fault {
-            place: 0,
-            fault: WordFault::NoCommand,
-        });
-    };
-    if command.as_str() != "copy" {
-        return Err(WordError::Fault {
-            place: 0,
-            fault: WordFault::UnknownCommand,
-        });
-    }
-    let seen = match read_behind(rest) {
+    let seen = match read_all(words) {
         Ok(seen) => seen,
         Err((place, fault)) => return Err(WordError::Fault { place, fault }),
     };
-    if seen.types == 0 {
-        return Err(WordError::Fault {
-            place: words.len(),
-            fault: WordFault::NoTypes,
-        });
-    }
-    if seen.types > COLUMNS_MAX {
-        return Err(WordError::Fault {
-            place: words.len(),
-            fault: WordFault::Schema(2),
-        });
-    }
-    let columns = known_types(alloc, rest)?;
+    let columns = known_types(alloc, words)?;
     let limits = limits_from(seen);
     Ok(Plan { limits, columns })
 }

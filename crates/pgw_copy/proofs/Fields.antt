@@ -5,8 +5,8 @@ use Rattle.std.specs.Int.{to_be_bytes, w32}
 use Rattle.pgw_wire.specs.Cell.{Cell}
 use Rattle.pgw_copy.specs.Format.{IsField, AreFields}
 use Rattle.pgw_copy.specs.Reader.{IsCutField, AreCutFields, AreWholeFields}
-use Rattle.pgw_copy.proofs.Lists.{same_front, same_rest}
-use Rattle.pgw_copy.proofs.Numbers.{same_number_4}
+use Rattle.pgw_wire.proofs.Lists.{same_front, same_rest}
+use Rattle.pgw_wire.proofs.Numbers.{same_number_4}
 
 -- what a length says of the cell and of the bytes behind it
 abbrev pub Says : ℕ → Cell → List ℕ → Type 0

@@ -2,11 +2,13 @@
 use Rattle.std.proofs.Common.{◌≡◌, ℕ, ◌<◌, ◌≤◌, ◌^◌, List, [], ◌++◌, length, refl, sym, ap, ◌∙◌, arith, append_assoc, append-nil, length-append, subst, inl, inr}
 use Rattle.std.specs.Int.{to_be_bytes, w32}
 use Rattle.pgw_copy.specs.declared.fault.CopyReadError.{CopyReadError}
-use Rattle.pgw_copy.specs.declared.fault.CopyReadError.TheVariants.{BadHeader, BadFlags, Truncated, BadFieldCount, ReadFault, NoMemory}
-use Rattle.pgw_copy.specs.Format.{magic, IsFixedHeader, IsHeader}
-use Rattle.pgw_copy.specs.Reader.{cut_fault, IsShort, HasNegativeExtension, fixed_fault, header_fault}
-use Rattle.pgw_copy.proofs.Lists.{same_front, same_rest}
-use Rattle.pgw_copy.proofs.Numbers.{same_number_4, whole_4}
+use Rattle.pgw_copy.specs.declared.fault.CopyReadError.TheVariants.{Truncated, ReadFault}
+use Rattle.std.specs.Prelude.{◌≢◌}
+use Rattle.pgw_copy.specs.Format.{magic, IsFixedHeader, IsHeader, IsCutHeader}
+use Rattle.pgw_copy.proofs.Reading.{cut_at}
+use Rattle.pgw_copy.specs.Reader.{CutError, IsShort, HasNegativeExtension, FixedError, bad_header, bad_flags, HeaderError, cut_header}
+use Rattle.pgw_wire.proofs.Lists.{same_front, same_rest}
+use Rattle.pgw_wire.proofs.Numbers.{same_number_4, whole_4}
 
 -- a magic and two numbers of four bytes in front
 pub record IsApart (fixed m : List ℕ) (flags extension : ℕ) : Type 0 where
@@ -105,26 +107,13 @@ negative_extension fixed m f e nineteen a is low negative =
     }
 
 -- what each error of the parts of a header says of the whole
-pub short_header : (e : CopyReadError) (bytes : List ℕ) → cut_fault (IsShort 19) e bytes → header_fault e bytes
-short_header BadHeader bytes h = absurd h
-short_header (BadFlags flags) bytes h = absurd h
-short_header Truncated bytes h = inl h
-short_header (BadFieldCount count) bytes h = h
-short_header ReadFault bytes h = inl h
-short_header NoMemory bytes h = h
+pub short_header : (e : CopyReadError) (bytes : List ℕ) → CutError (IsShort 19) e bytes → HeaderError e bytes
+short_header e bytes h = cut_header (cut_at (IsShort 19) IsCutHeader e bytes bytes inl h)
 
-pub refused_header : (e : CopyReadError) (bytes : List ℕ) → fixed_fault e bytes → header_fault e bytes
-refused_header BadHeader bytes h = h
-refused_header (BadFlags flags) bytes h = h
-refused_header Truncated bytes h = absurd h
-refused_header (BadFieldCount count) bytes h = h
-refused_header ReadFault bytes h = absurd h
-refused_header NoMemory bytes h = h
+pub short_extension : (e : CopyReadError) (x y : List ℕ) (extension : ℕ) → IsFixedHeader x extension → CutError (IsShort extension) e y → HeaderError e (x ++ y)
+short_extension e x y extension f h = cut_header (cut_at (IsShort extension) IsCutHeader e y (x ++ y) (λ short. inr (x, y, extension, f, refl, short)) h)
 
-pub short_extension : (e : CopyReadError) (x y : List ℕ) (extension : ℕ) → IsFixedHeader x extension → cut_fault (IsShort extension) e y → header_fault e (x ++ y)
-short_extension BadHeader x y extension f h = absurd h
-short_extension (BadFlags flags) x y extension f h = absurd h
-short_extension Truncated x y extension f h = inr (x, y, extension, f, refl, h)
-short_extension (BadFieldCount count) x y extension f h = h
-short_extension ReadFault x y extension f h = inr (x, y, extension, f, refl, h)
-short_extension NoMemory x y extension f h = h
+-- What is wrong with the first bytes is neither the end of the source nor a fault of it.
+pub is_inside : (e : CopyReadError) (bytes : List ℕ) → FixedError e bytes → (e ≢ Truncated) × (e ≢ ReadFault)
+is_inside e bytes (bad_header is h) = ((λ k. absurd (cc (is, k))), (λ k. absurd (cc (is, k))))
+is_inside e bytes (bad_flags flags is h) = ((λ k. absurd (cc (is, k))), (λ k. absurd (cc (is, k))))

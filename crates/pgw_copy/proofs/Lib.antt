@@ -1,5 +1,4 @@
-pub mod Lists
-pub mod Numbers
+pub mod Buffers
 pub mod Headers
 pub mod Fields
 pub mod Places

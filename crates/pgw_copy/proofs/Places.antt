@@ -4,7 +4,7 @@ use Rattle.std.proofs.lemmas.List.{take-append-le, drop-append-le, map-append}
 use Rattle.pgw_copy.specs.declared.row.Place.{Place}
 use Rattle.pgw_copy.specs.declared.row.Place.TheVariants.{Null, Piece}
 use Rattle.pgw_copy.specs.Places.{cell_at, cells_at, LiesIn, AllLieIn}
-use Rattle.pgw_copy.proofs.Lists.{tail_of}
+use Rattle.pgw_wire.proofs.Lists.{tail_of}
 
 lies_later : (p : Place) (n m : ℕ) → LiesIn n p → n ≤ m → LiesIn m p
 lies_later Null n m h more = tt

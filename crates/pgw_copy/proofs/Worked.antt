@@ -1,13 +1,13 @@
 -- What the definitions say of headers, counts, fields and rows that are written out byte by byte.
 use Rattle.std.proofs.Common.{◌≡◌, ℕ, ℤ, pos, negsuc, List, [], ◌∷◌, ◌++◌, length, get_or, Some, None, refl, ap, ◌∙◌, inl, inr, lit<, lit≤, arith, sym, subst}
 use Rattle.std.specs.Int.{cast_signed, w16}
-use Rattle.pgw_copy.proofs.Numbers.{same_number_2}
+use Rattle.pgw_wire.proofs.Numbers.{same_number_2}
 use Rattle.pgw_copy.specs.Places.{cells_at}
 use Rattle.pgw_copy.specs.declared.row.Place.TheVariants.{Null, Piece}
 use Rattle.pgw_copy.specs.Format.{magic, IsFixedHeader, IsHeader, IsCutHeader, IsField, AreFields, IsRow, IsCutRow}
 use Rattle.pgw_copy.specs.Reader.{IsBadHeader, HasNegativeExtension, HasHighFlags, IsBadCount, AreWholeFields, IsWholeRow, IsCutField, AreCutFields}
 use Rattle.pgw_copy.proofs.Fields.{short_field, short_piece, cut_fields}
-use Rattle.pgw_copy.proofs.Reading.{cut_row}
+use Rattle.pgw_copy.proofs.Reading.{is_cut_row}
 
 -- Flags 00000001 and a length of 5, and behind them five bytes: a low flag and an extension are allowed.
 abbrev extended : List ℕ
@@ -137,10 +137,10 @@ empty_row = record { fields = []; few = lit< tt; each = refl; is = refl }
 
 -- A row that ends inside its field was cut there, and one with fewer fields than its count says was cut behind them.
 pub cut_in_field : IsCutRow (0 ∷ 1 ∷ part_field)
-cut_in_field = cut_row 1 (0 ∷ 1 ∷ []) part_field (lit< tt, refl) (cut_fields 1 [] [] part_field (lit< tt) refl cut_piece)
+cut_in_field = is_cut_row 1 (0 ∷ 1 ∷ []) part_field (lit< tt, refl) (cut_fields 1 [] [] part_field (lit< tt) refl cut_piece)
 
 pub cut_behind_field : IsCutRow (0 ∷ 2 ∷ field_null)
-cut_behind_field = cut_row 2 (0 ∷ 2 ∷ []) (field_null ++ []) (lit< tt, refl) missing_second
+cut_behind_field = is_cut_row 2 (0 ∷ 2 ∷ []) (field_null ++ []) (lit< tt, refl) missing_second
 
 pub no_cut_empty_row : IsCutRow (0 ∷ 0 ∷ []) → ⊥
 no_cut_empty_row (inl short) = omega (arith, short)

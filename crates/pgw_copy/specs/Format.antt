@@ -28,7 +28,10 @@ canonical_header = magic ++ to_be_bytes w32 0 ++ to_be_bytes w32 0
 
 -- a header that is cut short: fewer than 19 bytes, whatever they are; or the first 19, and fewer than the extension has
 abbrev pub IsCutHeader : List ℕ → Type 0
-IsCutHeader bytes = (length bytes < 19) ⊎ ((fixed : List ℕ) × (rest : List ℕ) × (extension : ℕ) × IsFixedHeader fixed extension × (bytes ≡ fixed ++ rest) × (length rest < extension))
+IsCutHeader bytes =
+    (length bytes < 19)
+    ⊎ ((fixed : List ℕ) × (rest : List ℕ) × (extension : ℕ) × IsFixedHeader fixed extension
+    × (bytes ≡ fixed ++ rest) × (length rest < extension))
 
 -- A field is the frame of a piece. Any negative length is a null.
 abbrev pub IsField : Cell → List ℕ → Type 0
@@ -38,7 +41,8 @@ IsField (Some p) bytes = (length p < 2 ^ 31) × (bytes ≡ frame (Some p))
 -- the fields of these cells, one behind the other
 abbrev pub AreFields : List Cell → List ℕ → Type 0
 AreFields [] bytes = bytes ≡ []
-AreFields (c ∷ cs) bytes = (field : List ℕ) × (rest : List ℕ) × IsField c field × AreFields cs rest × (bytes ≡ field ++ rest)
+AreFields (c ∷ cs) bytes =
+    (field : List ℕ) × (rest : List ℕ) × IsField c field × AreFields cs rest × (bytes ≡ field ++ rest)
 
 -- a row: how many fields it has, and the fields
 pub record IsRow (cells : List Cell) (bytes : List ℕ) : Type 0 where
@@ -49,7 +53,8 @@ pub record IsRow (cells : List Cell) (bytes : List ℕ) : Type 0 where
 
 -- the beginning of a row that ends too early: within its count, or behind a count of 0 or more
 abbrev pub IsCutRow : List ℕ → Type 0
-IsCutRow bytes = (length bytes < 2) ⊎ ((count : ℕ) × (rest : List ℕ) × (count < 2 ^ 15) × (bytes ≡ to_be_bytes w16 count ++ rest)
+IsCutRow bytes =
+    (length bytes < 2) ⊎ ((count : ℕ) × (rest : List ℕ) × (count < 2 ^ 15) × (bytes ≡ to_be_bytes w16 count ++ rest)
     × ((cells : List Cell) (row behind : List ℕ) → IsRow cells row → bytes ≡ row ++ behind → ⊥))
 
 -- the count -1 ends a stream

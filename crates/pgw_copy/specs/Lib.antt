@@ -2,4 +2,3 @@ pub mod Format
 pub mod Places
 pub mod Reader
 pub mod State
-pub mod Writer

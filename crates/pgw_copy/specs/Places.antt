@@ -28,4 +28,5 @@ pub record KeptRow : Type 0 where
 
 abbrev pub kept_row_code : Coded KeptRow
 kept_row_code =
-    code_by (List Cell × List ℕ) (coded× (coded_list (coded_option (coded_list coded_ℕ))) (coded_list coded_ℕ)) (λ r. (r.cells, r.bytes)) (λ p. record { cells = p.0; bytes = p.1 }) (λ _. refl)
+    code_by (List Cell × List ℕ) (coded× (coded_list (coded_option (coded_list coded_ℕ))) (coded_list coded_ℕ))
+    (λ r. (r.cells, r.bytes)) (λ p. record { cells = p.0; bytes = p.1 }) (λ _. refl)

@@ -7,23 +7,23 @@ use thiserror::Error;
 /// Why a stream could not be read on.
 #[derive(Clone, Copy, Debug, PartialEq, Eq, Error)]
 pub enum CopyReadError {
-    /// The first 19 bytes do not begin with those that every stream begins with, or state, behind good flags, a negative
-    /// length of the header's extension.
+    /// Number 1 of these errors: the first 19 bytes do not begin with those that every stream begins with, or state, behind
+    /// good flags, a negative length of the header's extension.
     #[error("bad header")]
     BadHeader,
-    /// A bit of the high half of the header's flags, which are these, is set.
+    /// Number 2 of these errors: a bit of the high half of the header's flags, which are these, is set.
     #[error("bad flags {0:08X}")]
     BadFlags(u32),
-    /// The source ended where more bytes have to come.
+    /// Number 3 of these errors: the source ended where more bytes have to come.
     #[error("truncated")]
     Truncated,
-    /// The count of a row, which is this, is below -1.
+    /// Number 4 of these errors: the count of a row, which is this, is below -1.
     #[error("bad field count {0}")]
     BadFieldCount(i16),
-    /// The source failed.
+    /// Number 5 of these errors: the source failed.
     #[error("read fault")]
     ReadFault,
-    /// Memory was asked for and refused.
+    /// Number 6 of these errors: memory was asked for and refused.
     #[error("out of memory")]
     NoMemory,
 }

@@ -1,6 +1,5 @@
 ghost use Rattle.std.specs.Prelude.{◌≡◌, ◌<◌, ◌≤◌, length};
-ghost use Rattle.pgw_wire.specs.Outside.{HasFailed};
-ghost use Rattle.pgw_copy.specs.Reader.{Takes, cut_fault, IsShort};
+ghost use Rattle.pgw_copy.specs.Reader.{Reads, CutError, IsShort};
 
 use crate::CopyReadError;
 use pgw_wire::Source;
@@ -10,11 +9,7 @@ const CHUNK: usize = 512;
 
 /// Fills the buffer with the next bytes of the source, by as many reads as it wants.
 fn fill_by_reads<S: Source>(source: &mut S, buf: &mut [u8]) -> Result<(), CopyReadError>
-    ensures takes { Takes (S.left source.old) (S.left source.new)
-        (HasFailed (S.fault_count source.old) (S.fault_count source.new))
-        result (λ _ taken. taken ≡ buf.new) (cut_fault (IsShort (length buf.old))) }
-    ensures faults { S.fault_count source.old ≤ S.fault_count source.new }
-    ensures origin { S.origin source.new ≡ S.origin source.old }
+    ensures takes { Reads (S.state source.old) (S.state source.new) result (λ _ taken. taken ≡ buf.new) (CutError (IsShort (length buf.old))) }
 {
     let mut filled = 0;
     while filled < buf.len() {
@@ -33,11 +28,7 @@ fn fill_by_reads<S: Source>(source: &mut S, buf: &mut [u8]) -> Result<(), CopyRe
 #[inline(always)]
 pub(crate) fn fill<S: Source>(source: &mut S, buf: &mut [u8]) -> Result<(), CopyReadError>
     requires { 0 < length buf.old }
-    ensures takes { Takes (S.left source.old) (S.left source.new)
-        (HasFailed (S.fault_count source.old) (S.fault_count source.new))
-        result (λ _ taken. taken ≡ buf.new) (cut_fault (IsShort (length buf.old))) }
-    ensures faults { S.fault_count source.old ≤ S.fault_count source.new }
-    ensures origin { S.origin source.new ≡ S.origin source.old }
+    ensures takes { Reads (S.state source.old) (S.state source.new) result (λ _ taken. taken ≡ buf.new) (CutError (IsShort (length buf.old))) }
 {
     match source.read(buf) {
         Ok(n) if n == buf.len() => Ok(()),
@@ -49,11 +40,7 @@ pub(crate) fn fill<S: Source>(source: &mut S, buf: &mut [u8]) -> Result<(), Copy
 
 /// Takes the next `len` bytes and keeps none of them.
 pub(crate) fn pass_over<S: Source>(source: &mut S, len: usize) -> Result<(), CopyReadError>
-    ensures takes { Takes (S.left source.old) (S.left source.new)
-        (HasFailed (S.fault_count source.old) (S.fault_count source.new))
-        result (λ _ taken. length taken ≡ len) (cut_fault (IsShort len)) }
-    ensures faults { S.fault_count source.old ≤ S.fault_count source.new }
-    ensures origin { S.origin source.new ≡ S.origin source.old }
+    ensures takes { Reads (S.state source.old) (S.state source.new) result (λ _ taken. length taken ≡ len) (CutError (IsShort len)) }
 {
     let mut chunk = [0; CHUNK];
     let chunk = &mut chunk[..];

@@ -1,10 +1,9 @@
 ghost use Rattle.std.specs.Prelude.{◌≡◌, ◌≢◌, ◌≤◌, length, List, ℕ, IfOk, IfErr, ⊤};
-ghost use Rattle.pgw_wire.specs.Outside.{HasFailed};
 ghost use Rattle.pgw_copy.specs.Format.{IsFixedHeader, IsHeader};
-ghost use Rattle.pgw_copy.specs.Reader.{Takes, header_fault, fixed_fault};
+ghost use Rattle.pgw_copy.specs.Reader.{Reads, HeaderError, FixedError};
 
-use crate::CopyReadError;
 use crate::filling::{fill, pass_over};
+use crate::{CopyReadError, NEGATIVE_LENGTH};
 use pgw_wire::{Source, take_piece, take_u32};
 
 /// The bytes that every stream begins with.
@@ -13,13 +12,10 @@ const MAGIC: [u8; 11] = *b"PGCOPY\n\xff\r\n\0";
 /// From here on a bit of the flags' high half is set.
 const HIGH_HALF: u32 = 1 << 16;
 
-/// From here on a length is negative, in two's complement.
-const NEGATIVE_LENGTH: u32 = 1 << 31;
-
 /// How many bytes of extension follow these first 19 bytes of a header.
 fn extension_of(fixed: &[u8; 19]) -> Result<usize, CopyReadError>
     ensures ok { IfOk result (λ extension. IsFixedHeader fixed.now extension) }
-    ensures err { IfErr result (λ e. fixed_fault e fixed.now) }
+    ensures err { IfErr result (λ e. FixedError e fixed.now) }
 {
     let (magic, rest) = take_piece(fixed, MAGIC.len()).unwrap();
     let (flags, rest) = take_u32(rest).unwrap();
@@ -37,11 +33,7 @@ fn extension_of(fixed: &[u8; 19]) -> Result<usize, CopyReadError>
 
 /// Takes the header of a stream.
 pub(crate) fn take_header<S: Source>(source: &mut S) -> Result<(), CopyReadError>
-    ensures takes { Takes (S.left source.old) (S.left source.new)
-        (HasFailed (S.fault_count source.old) (S.fault_count source.new))
-        result (λ _ taken. IsHeader taken) header_fault }
-    ensures faults { S.fault_count source.old ≤ S.fault_count source.new }
-    ensures origin { S.origin source.new ≡ S.origin source.old }
+    ensures takes { Reads (S.state source.old) (S.state source.new) result (λ _ taken. IsHeader taken) HeaderError }
 {
     let mut fixed = [0; 19];
     fill(source, &mut fixed)?;

@@ -3,15 +3,15 @@
 
 mod fault;
 mod filling;
+mod format;
 mod header;
 mod reader;
 mod row;
 mod taken;
-#[cfg(test)]
-mod tests;
 mod writer;
 
 pub use fault::CopyReadError;
+pub use format::{NEGATIVE_COUNT, NEGATIVE_LENGTH};
 pub use reader::CopyReader;
 pub use row::RawRow;
 pub use writer::CopyWriter;

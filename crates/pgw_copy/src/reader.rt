@@ -2,29 +2,26 @@ ghost use Rattle.std.specs.Prelude.{◌≡◌, ◌≢◌, ◌≤◌, ◌^◌, �
 ghost use Rattle.std.specs.Borrow.{sem};
 ghost use Rattle.std.specs.Io.BufRead.{Rests};
 ghost use Rattle.std.specs.Int.{to_be_bytes, w16};
-ghost use Rattle.pgw_wire.specs.Outside.{HasFailed, Took};
 ghost use Rattle.pgw_copy.specs.contracts.reader.CopyReader.{the_row};
 ghost use Rattle.pgw_copy.specs.Format.{IsHeader, IsCount, AreFields};
-ghost use Rattle.pgw_copy.specs.Reader.{Takes, kept_fault, header_fault, count_fault, row_fault, AreCutFields, AreWholeFields, IsRowOrEnd};
-ghost use Rattle.pgw_copy.specs.State.{pending, is_over, IsReady, IsEnded, cells_of, bytes_of};
+ghost use Rattle.pgw_copy.specs.Reader.{Reads, KeptError, HeaderError, CountError, RowError, AreCutFields, AreWholeFields, IsRowOrEnd};
+ghost use Rattle.pgw_copy.specs.State.{ready, behind_count, ended, cells_of, bytes_of};
 
 use crate::filling::fill;
 use crate::header::take_header;
 use crate::row::RowBuffer;
-use crate::{CopyReadError, RawRow};
+use crate::{CopyReadError, NEGATIVE_COUNT, RawRow};
 use pgw_wire::{Source, take_u16};
 use std::alloc::Global;
+use std::marker::Model;
 
 /// The count -1, which ends a stream, in two's complement.
 const END: u16 = 0xffff;
 
-/// From here on a count is negative, in two's complement.
-const NEGATIVE_COUNT: u16 = 1 << 15;
-
 /// What a count says, which it is handed as it stands: how many fields a row has, or None where -1 ends the stream.
 fn count_of(count: u16) -> Result<Option<u16>, CopyReadError>
     ensures ok { IfOk result (λ c. IsCount c (to_be_bytes w16 count)) }
-    ensures err { IfErr result (λ e. count_fault e (to_be_bytes w16 count)) }
+    ensures err { IfErr result (λ e. CountError e (to_be_bytes w16 count)) }
     ensures known { IfErr result (λ e. (e ≢ CopyReadError.Truncated) × (e ≢ CopyReadError.ReadFault)) }
 {
     if count == END {
@@ -38,11 +35,7 @@ fn count_of(count: u16) -> Result<Option<u16>, CopyReadError>
 
 /// Takes the count in front of a row, or None at the count -1, which ends the stream.
 fn take_count<S: Source>(source: &mut S) -> Result<Option<u16>, CopyReadError>
-    ensures takes { Takes (S.left source.old) (S.left source.new)
-        (HasFailed (S.fault_count source.old) (S.fault_count source.new))
-        result IsCount count_fault }
-    ensures faults { S.fault_count source.old ≤ S.fault_count source.new }
-    ensures origin { S.origin source.new ≡ S.origin source.old }
+    ensures takes { Reads (S.state source.old) (S.state source.new) result IsCount CountError }
 {
     let mut bytes = [0; 2];
     fill(source, &mut bytes)?;
@@ -70,6 +63,16 @@ pub struct CopyReader {
     state: State,
 }
 
+impl Model for CopyReader {
+    ghost use Rattle.pgw_copy.specs.State.{ReaderState, reader_state_code, pending_in, is_over_in};
+
+    ghost Value = { ReaderState };
+
+    ghost coded = { reader_state_code };
+
+    ghost view = { λ r. record { pending = pending_in r.state; over = is_over_in r.state } };
+}
+
 impl CopyReader {
     /// Takes the header of a stream.
     ///
@@ -80,12 +83,8 @@ impl CopyReader {
     /// | `Truncated` | all that was left: fewer than 19 bytes, or the first 19 of a header and less than its extension |
     /// | `ReadFault` | such bytes as for `Truncated`; the source failed behind them |
     pub fn start<S: Source>(alloc: Global, source: &mut S) -> Result<CopyReader, CopyReadError>
-        ensures takes { Takes (S.left source.old) (S.left source.new)
-            (HasFailed (S.fault_count source.old) (S.fault_count source.new))
-            result (λ _ taken. IsHeader taken) header_fault }
-        ensures reader { IfOk result IsReady }
-        ensures faults { S.fault_count source.old ≤ S.fault_count source.new }
-        ensures origin { S.origin source.new ≡ S.origin source.old }
+        ensures takes { Reads (S.state source.old) (S.state source.new) result (λ _ taken. IsHeader taken) HeaderError }
+        ensures reader { IfOk result (λ reader. reader ≡ ready) }
     {
         take_header(source)?;
         Ok(CopyReader {
@@ -102,14 +101,10 @@ impl CopyReader {
     /// | `Truncated` | all that was left, fewer than two bytes |
     /// | `ReadFault` | fewer than two bytes; the source failed behind them |
     pub fn next_count<S: Source>(&mut self, source: &mut S) -> Result<Option<u16>, CopyReadError>
-        requires { IsReady self.old }
-        ensures takes { Takes (S.left source.old) (S.left source.new)
-            (HasFailed (S.fault_count source.old) (S.fault_count source.new))
-            result IsCount count_fault }
-        ensures ok { IfOk result (λ count. (pending self.new ≡ count) × (is_over self.new ≡ is_none count)) }
-        ensures err { OnErr result (IsEnded self.new) }
-        ensures faults { S.fault_count source.old ≤ S.fault_count source.new }
-        ensures origin { S.origin source.new ≡ S.origin source.old }
+        requires { self.old ≡ ready }
+        ensures takes { Reads (S.state source.old) (S.state source.new) result IsCount CountError }
+        ensures ok { IfOk result (λ count. self.new ≡ behind_count count) }
+        ensures err { OnErr result (self.new ≡ ended) }
     {
         self.state = State::Over;
         let count = take_count(source)?;
@@ -127,17 +122,13 @@ impl CopyReader {
     /// | `ReadFault` | the beginning of these fields; the source failed behind it |
     /// | `NoMemory` | the beginning of these fields, or all of them; memory for the row was asked for and refused |
     pub fn read_fields<S: Source>(&mut self, source: &mut S) -> Result<RawRow<'_>, CopyReadError>
-        requires { IsSome (pending self.old) }
-        ensures takes { (count : ℕ) → pending self.old ≡ Some count → Takes (S.left source.old) (S.left source.new)
-            (HasFailed (S.fault_count source.old) (S.fault_count source.new))
-            result
+        requires { IsSome self.old.pending }
+        ensures takes { (count : ℕ) → self.old.pending ≡ Some count → Reads (S.state source.old) (S.state source.new) result
             (λ row taken. AreFields (cells_of row) taken × (bytes_of row ≡ to_be_bytes w16 count ++ taken))
-            (kept_fault (AreCutFields count) (AreWholeFields count)) }
-        ensures many { (count : ℕ) → pending self.old ≡ Some count → IfOk result (λ row. length (cells_of row) ≡ count) }
+            (KeptError (AreCutFields count) (AreWholeFields count)) }
+        ensures many { (count : ℕ) → self.old.pending ≡ Some count → IfOk result (λ row. length (cells_of row) ≡ count) }
         ensures* reader { sem 𝓛 (Rests the_row self.entry (λ new.
-            MatchResult result (λ _. IsReady new) (λ _. IsEnded new))) }
-        ensures faults { S.fault_count source.old ≤ S.fault_count source.new }
-        ensures origin { S.origin source.new ≡ S.origin source.old }
+            MatchResult result (λ _. new ≡ ready) (λ _. new ≡ ended))) }
     {
         let count = self.pending().unwrap();
         self.state = State::Over;
@@ -152,16 +143,12 @@ impl CopyReader {
         &mut self,
         source: &mut S,
     ) -> Result<Option<RawRow<'_>>, CopyReadError>
-        requires { IsReady self.old }
-        ensures takes { Takes (S.left source.old) (S.left source.new)
-            (HasFailed (S.fault_count source.old) (S.fault_count source.new))
-            result
+        requires { self.old ≡ ready }
+        ensures takes { Reads (S.state source.old) (S.state source.new) result
             (λ row taken. IsRowOrEnd (option_map cells_of row) taken × IfSome row (λ r. bytes_of r ≡ taken))
-            row_fault }
+            RowError }
         ensures* reader { sem 𝓛 (Rests the_row self.entry (λ new.
-            MatchResult result (λ row. (pending new ≡ None) × (is_over new ≡ is_none row)) (λ _. IsEnded new))) }
-        ensures faults { S.fault_count source.old ≤ S.fault_count source.new }
-        ensures origin { S.origin source.new ≡ S.origin source.old }
+            MatchResult result (λ row. new ≡ record { pending = None; over = is_none row }) (λ _. new ≡ ended))) }
     {
         match self.next_count(source)? {
             None => Ok(None),
@@ -171,7 +158,7 @@ impl CopyReader {
 
     /// How many fields are pending.
     pub fn pending(&self) -> Option<u16>
-        ensures { result ≡ pending self.now }
+        ensures { result ≡ self.now.pending }
     {
         match self.state {
             State::Pending(count) => Some(count),
@@ -181,7 +168,7 @@ impl CopyReader {
 
     /// Whether it reads no more.
     pub fn is_over(&self) -> bool
-        ensures { result ≡ is_over self.now }
+        ensures { result ≡ self.now.over }
     {
         matches!(self.state, State::Over)
     }

@@ -2,19 +2,15 @@ ghost use Rattle.std.specs.Prelude.{◌≡◌, ◌≤◌, ◌+◌, [], ◌∷◌
 ghost use Rattle.std.specs.Int.{to_be_bytes, w16};
 ghost use Rattle.std.specs.List.{slice_get};
 ghost use Rattle.pgw_wire.specs.Cell.{Cell, cell_of};
-ghost use Rattle.pgw_wire.specs.Outside.{HasFailed};
 ghost use Rattle.pgw_copy.specs.State.{cells_of, bytes_of};
 ghost use Rattle.pgw_copy.specs.Format.{IsField, AreFields};
-ghost use Rattle.pgw_copy.specs.Reader.{Takes, kept_fault, IsShort, HasSize, IsCutField, IsWholeField, AreCutFields, AreWholeFields};
+ghost use Rattle.pgw_copy.specs.Reader.{Reads, KeptError, IsShort, HasSize, IsCutField, IsWholeField, AreCutFields, AreWholeFields};
 
-use crate::CopyReadError;
 use crate::taken::TakenBytes;
+use crate::{CopyReadError, NEGATIVE_LENGTH};
 use pgw_wire::{RawCell, Source};
 use std::alloc::{AllocError, Global};
 use std::marker::Model;
-
-/// From here on a length is negative, in two's complement.
-const NEGATIVE_LENGTH: u32 = 1 << 31;
 
 /// Where the cell of a field lies among the bytes of its row.
 #[derive(Clone, Copy)]
@@ -94,15 +90,11 @@ impl RowBuffer {
 
     /// Takes the next `len` bytes, and keeps them as the piece of a cell behind the others.
     fn take_piece<S: Source>(&mut self, len: usize, source: &mut S) -> Result<(), CopyReadError>
-        ensures takes { Takes (S.left source.old) (S.left source.new)
-            (HasFailed (S.fault_count source.old) (S.fault_count source.new))
-            result
+        ensures takes { Reads (S.state source.old) (S.state source.new) result
             (λ _ taken. (length taken ≡ len) × (self.new.cells ≡ self.old.cells ++ (Some taken ∷ []))
             × (self.new.bytes ≡ self.old.bytes ++ taken))
-            (kept_fault (IsShort len) (HasSize len)) }
+            (KeptError (IsShort len) (HasSize len)) }
         ensures many { OnOk result (length self.new.cells ≡ length self.old.cells + 1) }
-        ensures faults { S.fault_count source.old ≤ S.fault_count source.new }
-        ensures origin { S.origin source.new ≡ S.origin source.old }
     {
         let start = self.bytes.len();
         self.bytes.take(source, len)?;
@@ -113,15 +105,11 @@ impl RowBuffer {
 
     /// Takes a field, and keeps its cell behind the others.
     pub(crate) fn take_field<S: Source>(&mut self, source: &mut S) -> Result<(), CopyReadError>
-        ensures takes { Takes (S.left source.old) (S.left source.new)
-            (HasFailed (S.fault_count source.old) (S.fault_count source.new))
-            result
+        ensures takes { Reads (S.state source.old) (S.state source.new) result
             (λ _ taken. (cell : Cell) × IsField cell taken × (self.new.cells ≡ self.old.cells ++ (cell ∷ []))
             × (self.new.bytes ≡ self.old.bytes ++ taken))
-            (kept_fault IsCutField IsWholeField) }
+            (KeptError IsCutField IsWholeField) }
         ensures many { OnOk result (length self.new.cells ≡ length self.old.cells + 1) }
-        ensures faults { S.fault_count source.old ≤ S.fault_count source.new }
-        ensures origin { S.origin source.new ≡ S.origin source.old }
     {
         let length = self.bytes.take_length(source)?;
         if length < NEGATIVE_LENGTH {
@@ -138,14 +126,10 @@ impl RowBuffer {
         count: u16,
         source: &mut S,
     ) -> Result<(), CopyReadError>
-        ensures takes { Takes (S.left source.old) (S.left source.new)
-            (HasFailed (S.fault_count source.old) (S.fault_count source.new))
-            result
+        ensures takes { Reads (S.state source.old) (S.state source.new) result
             (λ _ taken. AreFields self.new.cells taken × (self.new.bytes ≡ to_be_bytes w16 count ++ taken))
-            (kept_fault (AreCutFields count) (AreWholeFields count)) }
+            (KeptError (AreCutFields count) (AreWholeFields count)) }
         ensures many { OnOk result (length self.new.cells ≡ count) }
-        ensures faults { S.fault_count source.old ≤ S.fault_count source.new }
-        ensures origin { S.origin source.new ≡ S.origin source.old }
     {
         self.begin(count)?;
         for _field in 0..count {
@@ -176,22 +160,5 @@ impl RowBuffer {
         ensures { result.now ≡ self.now.bytes }
     {
         self.bytes.as_bytes()
-    }
-}
-
-#[cfg(test)]
-mod tests {
-    use super::RowBuffer;
-    use pgw_wire::QuietSource;
-
-    #[test]
-    fn nothing_is_kept_of_the_row_before(rt: HostRuntime) {
-        let bytes = Vec::from_slice(rt.alloc(), b"\0\0\0\x03abc\0\0\0\x02de").expect(&rt, "memory");
-        let mut source = QuietSource::new(bytes);
-        let mut row = RowBuffer::new(rt.alloc());
-        row.take_fields(1, &mut source).expect(&rt, "a row");
-        assert_eq!(rt; row.as_bytes(), b"\0\x01\0\0\0\x03abc".as_slice());
-        row.take_fields(1, &mut source).expect(&rt, "a row");
-        assert_eq!(rt; row.as_bytes(), b"\0\x01\0\0\0\x02de".as_slice());
     }
 }

@@ -1,7 +1,6 @@
-ghost use Rattle.std.specs.Prelude.{◌≡◌, ◌+◌, ◌-◌, ◌<◌, ◌≤◌, ◌^◌, [], ◌++◌, length, take, drop, OnOk};
+ghost use Rattle.std.specs.Prelude.{◌≡◌, ◌+◌, ◌-◌, ◌<◌, ◌≤◌, ◌^◌, [], ◌++◌, length, max, min, take, drop, OnOk};
 ghost use Rattle.std.specs.Int.{to_be_bytes, w16, w32};
-ghost use Rattle.pgw_wire.specs.Outside.{HasFailed};
-ghost use Rattle.pgw_copy.specs.Reader.{Takes, kept_fault, IsShort};
+ghost use Rattle.pgw_copy.specs.Reader.{Reads, KeptError, IsShort};
 
 use crate::CopyReadError;
 use crate::filling::fill;
@@ -24,7 +23,7 @@ fn grow(bytes: &mut Vec<u8>, used: usize, next: usize) -> Result<(), AllocError>
     requires within { used ≤ length bytes.old.items }
     requires less { length bytes.old.items < used + next }
     requires step { next ≤ 65536 }
-    ensures ok { OnOk result (used + next ≤ length bytes.new.items) }
+    ensures ok { OnOk result (length bytes.new.items ≡ used + max next (min used 65536)) }
     ensures kept { take used bytes.new.items ≡ take used bytes.old.items }
     ensures within { used ≤ length bytes.new.items }
 {
@@ -40,6 +39,7 @@ fn make_room(bytes: &mut Vec<u8>, used: usize, next: usize) -> Result<(), AllocE
     requires within { used ≤ length bytes.old.items }
     requires step { next ≤ 65536 }
     ensures ok { OnOk result (used + next ≤ length bytes.new.items) }
+    ensures most { OnOk result (length bytes.new.items ≤ max (length bytes.old.items) (used + max next (min used 65536))) }
     ensures kept { take used bytes.new.items ≡ take used bytes.old.items }
     ensures within { used ≤ length bytes.new.items }
 {
@@ -122,15 +122,11 @@ impl TakenBytes {
     fn append<S: Source>(&mut self, source: &mut S, next: usize) -> Result<(), CopyReadError>
         requires some { 0 < next }
         requires step { next ≤ 65536 }
-        ensures takes { Takes (S.left source.old) (S.left source.new)
-            (HasFailed (S.fault_count source.old) (S.fault_count source.new))
-            result
+        ensures takes { Reads (S.state source.old) (S.state source.new) result
             (λ _ taken. (length taken ≡ next) × (self.new ≡ self.old ++ taken))
-            (kept_fault (IsShort next) (λ _. ⊥)) }
+            (KeptError (IsShort next) (λ _. ⊥)) }
         ensures kept { length self.old ≤ length self.new }
         ensures grown { OnOk result (length self.new ≡ length self.old + next) }
-        ensures faults { S.fault_count source.old ≤ S.fault_count source.new }
-        ensures origin { S.origin source.new ≡ S.origin source.old }
     {
         make_room(&mut self.bytes, self.used, next)?;
         fill(source, &mut self.bytes[self.used..self.used + next])?;
@@ -141,14 +137,10 @@ impl TakenBytes {
     /// Takes the length of a field, and appends its bytes. It answers its two's complement as it stands: from 2^31 on it is
     /// negative.
     pub(crate) fn take_length<S: Source>(&mut self, source: &mut S) -> Result<u32, CopyReadError>
-        ensures takes { Takes (S.left source.old) (S.left source.new)
-            (HasFailed (S.fault_count source.old) (S.fault_count source.new))
-            result
+        ensures takes { Reads (S.state source.old) (S.state source.new) result
             (λ n taken. (n < 2 ^ 32) × (taken ≡ to_be_bytes w32 n) × (self.new ≡ self.old ++ taken))
-            (kept_fault (IsShort 4) (λ _. ⊥)) }
+            (KeptError (IsShort 4) (λ _. ⊥)) }
         ensures kept { length self.old ≤ length self.new }
-        ensures faults { S.fault_count source.old ≤ S.fault_count source.new }
-        ensures origin { S.origin source.new ≡ S.origin source.old }
     {
         self.append(source, LENGTH)?;
         let end = self.len();
@@ -163,15 +155,11 @@ impl TakenBytes {
         source: &mut S,
         len: usize,
     ) -> Result<(), CopyReadError>
-        ensures takes { Takes (S.left source.old) (S.left source.new)
-            (HasFailed (S.fault_count source.old) (S.fault_count source.new))
-            result
+        ensures takes { Reads (S.state source.old) (S.state source.new) result
             (λ _ taken. (length taken ≡ len) × (self.new ≡ self.old ++ taken))
-            (kept_fault (IsShort len) (λ _. ⊥)) }
+            (KeptError (IsShort len) (λ _. ⊥)) }
         ensures kept { length self.old ≤ length self.new }
         ensures grown { OnOk result (length self.new ≡ length self.old + len) }
-        ensures faults { S.fault_count source.old ≤ S.fault_count source.new }
-        ensures origin { S.origin source.new ≡ S.origin source.old }
     {
         let mut left = len;
         while left > 0 {
@@ -180,23 +168,5 @@ impl TakenBytes {
             left -= next;
         }
         Ok(())
-    }
-}
-
-#[cfg(test)]
-mod tests {
-    use super::TakenBytes;
-    use crate::CopyReadError;
-    use pgw_wire::QuietSource;
-
-    // A piece that states 2147483647 bytes and holds three.
-    #[test]
-    fn room_follows_what_was_taken(rt: HostRuntime) {
-        let bytes = Vec::from_slice(rt.alloc(), b"abc").expect(&rt, "memory");
-        let mut source = QuietSource::new(bytes);
-        let mut kept = TakenBytes::new(rt.alloc());
-        let result = kept.take(&mut source, 2147483647);
-        assert_eq!(rt; result, Err(CopyReadError::Truncated));
-        assert!(rt; kept.bytes.capacity() <= 3 + 65536);
     }
 }

@@ -1,12 +1,10 @@
-ghost use Rattle.std.specs.Prelude.{◌≡◌, ◌≤◌, [], length, OnOk, OnErr, true, option_map};
+ghost use Rattle.std.specs.Prelude.{◌≡◌, ◌⊎◌, ◌≤◌, [], length, OnOk, OnErr};
 ghost use Rattle.std.specs.Int.{to_be_bytes, w16};
-ghost use Rattle.std.specs.Io.KnownBytes.{Appends};
 ghost use Rattle.std.specs.Borrow.{Lends, sem};
 ghost use Rattle.pgw_wire.specs.contracts.buffer.ByteBuffer.{the_row as buffer_row};
-ghost use Rattle.pgw_wire.specs.Outside.{HasFailed, Wrote};
+ghost use Rattle.pgw_wire.specs.Outside.{HasFailed, Settled, Writes, Wrote, WroteFront};
 ghost use Rattle.pgw_copy.specs.contracts.writer.CopyWriter.{the_row};
 ghost use Rattle.pgw_copy.specs.Format.{canonical_header, trailer};
-ghost use Rattle.pgw_copy.specs.Writer.{WroteFront};
 
 use pgw_wire::{ByteBuffer, Failed, NoMemory, Sink, send};
 use std::alloc::Global;
@@ -40,11 +38,7 @@ impl Model for CopyWriter {
 
 /// Writes the whole piece. `Failed` where the sink failed.
 fn send_whole<K: Sink>(sink: &mut K, piece: &[u8]) -> Result<(), Failed>
-    ensures ok { OnOk result (Wrote (K.gained sink.old) (K.gained sink.new) (K.settled sink.old) (K.settled sink.new) piece.now) }
-    ensures err { OnErr result (WroteFront (K.gained sink.old) (K.gained sink.new) (K.settled sink.old) (K.settled sink.new) piece.now) }
-    ensures failed { OnErr result (HasFailed (K.fault_count sink.old) (K.fault_count sink.new)) }
-    ensures faults { K.fault_count sink.old ≤ K.fault_count sink.new }
-    ensures origin { K.origin sink.new ≡ K.origin sink.old }
+    ensures writes { Writes (K.state sink.old) (K.state sink.new) result piece.now }
 {
     if send(sink, piece) < piece.len() {
         Err(Failed)
@@ -66,11 +60,7 @@ impl CopyWriter {
     /// Writes the header, 19 bytes: the 11 of the magic, then four of flags and four of the extension's length, all 0.
     /// `Failed` where the sink failed.
     pub fn header<K: Sink>(&mut self, sink: &mut K) -> Result<(), Failed>
-        ensures ok { OnOk result (Wrote (K.gained sink.old) (K.gained sink.new) (K.settled sink.old) (K.settled sink.new) canonical_header) }
-        ensures err { OnErr result (WroteFront (K.gained sink.old) (K.gained sink.new) (K.settled sink.old) (K.settled sink.new) canonical_header) }
-        ensures failed { OnErr result (HasFailed (K.fault_count sink.old) (K.fault_count sink.new)) }
-        ensures faults { K.fault_count sink.old ≤ K.fault_count sink.new }
-        ensures origin { K.origin sink.new ≡ K.origin sink.old }
+        ensures writes { Writes (K.state sink.old) (K.state sink.new) result canonical_header }
         ensures buffer { self.new ≡ self.old }
     {
         send_whole(sink, &HEADER)
@@ -100,25 +90,19 @@ impl CopyWriter {
 
     /// Writes the bytes of the buffer, which keeps them. `Failed` where the sink failed.
     pub fn send_row<K: Sink>(&mut self, sink: &mut K) -> Result<(), Failed>
-        ensures ok { OnOk result (Wrote (K.gained sink.old) (K.gained sink.new) (K.settled sink.old) (K.settled sink.new) self.old.bytes) }
-        ensures err { OnErr result (WroteFront (K.gained sink.old) (K.gained sink.new) (K.settled sink.old) (K.settled sink.new) self.old.bytes) }
-        ensures failed { OnErr result (HasFailed (K.fault_count sink.old) (K.fault_count sink.new)) }
-        ensures faults { K.fault_count sink.old ≤ K.fault_count sink.new }
-        ensures origin { K.origin sink.new ≡ K.origin sink.old }
+        ensures writes { Writes (K.state sink.old) (K.state sink.new) result self.old.bytes }
         ensures buffer { self.new ≡ self.old }
     {
         send_whole(sink, self.row.as_bytes())
     }
 
     /// Writes the count -1, two bytes of 255, which ends the stream, and flushes, so that all that the sink got is
-    /// settled. `Failed` where the sink failed.
+    /// settled. `Failed` where the sink failed; where the flush did, both bytes were written.
     pub fn trailer<K: Sink>(&mut self, sink: &mut K) -> Result<(), Failed>
-        ensures ok { OnOk result (Appends (K.gained sink.old) (K.gained sink.new) trailer) }
-        ensures settled { OnOk result (K.settled sink.new ≡ option_map (λ _. true) (K.settled sink.old)) }
-        ensures err { OnErr result (WroteFront (K.gained sink.old) (K.gained sink.new) (K.settled sink.old) (K.settled sink.new) trailer) }
-        ensures failed { OnErr result (HasFailed (K.fault_count sink.old) (K.fault_count sink.new)) }
-        ensures faults { K.fault_count sink.old ≤ K.fault_count sink.new }
-        ensures origin { K.origin sink.new ≡ K.origin sink.old }
+        ensures ok { OnOk result (Settled (K.state sink.old) (K.state sink.new) trailer) }
+        ensures err { OnErr result (WroteFront (Wrote (K.state sink.old) (K.state sink.new)) trailer
+            ⊎ Wrote (K.state sink.old) (K.state sink.new) trailer) }
+        ensures failed { OnErr result (HasFailed (K.state sink.old) (K.state sink.new)) }
         ensures buffer { self.new ≡ self.old }
     {
         send_whole(sink, &TRAILER)?;

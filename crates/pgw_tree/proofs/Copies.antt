@@ -1,24 +1,22 @@
 -- What was taken and written of a stream, one row more at a time.
-use Rattle.std.proofs.Common.{◌≡◌, ℕ, ◌<◌, suc, cond, List, [], ◌∷◌, ◌++◌, length, Bool, true, false, option_map, Option, None, Some, Result, Err, refl, sym, ap, ◌∙◌, arith, subst, append_assoc, append-nil, length-append}
+use Rattle.std.proofs.Common.{◌≡◌, ℕ, ◌<◌, cond, List, [], ◌∷◌, ◌++◌, length, Bool, true, false, option_map, Option, None, Some, refl, sym, ap, ◌∙◌, ◌⊎◌, inl, inr, arith, subst, append_assoc, append-nil, length-append}
 use Rattle.std.specs.List.{flat_map, AllByRecursion}
 use Rattle.std.proofs.lemmas.Grind.{flat_map-append}
 use Rattle.pgw_wire.specs.Cell.{Cell}
-use Rattle.pgw_wire.specs.Outside.{Took, Wrote, settled_after}
+use Rattle.pgw_wire.specs.Outside.{SinkState, settled, settled_after, Wrote, Settled, WroteFront}
 use lib.Dec.{eqb}
-use Rattle.pgw_wire.proofs.Adding.{wrote_then}
+use Rattle.pgw_wire.proofs.Adding.{appends_then, wrote_then}
+use Rattle.pgw_wire.proofs.Taking.{goes_on_then}
 use Rattle.pgw_copy.specs.Format.{IsHeader, IsRow, canonical_header}
-use Rattle.pgw_copy.specs.Reader.{header_fault}
-use Rattle.pgw_copy.specs.Writer.{WroteFront}
+use Rattle.pgw_copy.specs.Reader.{bad_header as fixed_bad_header, bad_flags as fixed_bad_flags, truncated as cut_off, read_fault as cut_unread, HeaderError, refused_header, cut_header}
 use Rattle.pgw_copy.specs.declared.fault.CopyReadError.{CopyReadError}
-use Rattle.pgw_copy.specs.declared.fault.CopyReadError.TheVariants.{BadHeader, BadFlags, Truncated, BadFieldCount, ReadFault, NoMemory}
-use Rattle.pgw_tree.specs.declared.fault.CopyFault.{CopyFault}
 use Rattle.pgw_tree.specs.Tree.{Shape, Value}
 use Rattle.pgw_tree.specs.Spells.{SpellsRow}
 use Rattle.pgw_tree.specs.Canonical.{FitsRow, canonical_row, canonical_front}
 use Rattle.pgw_tree.specs.Stream.{AreRows, IsFront, IsWithin}
 use Rattle.pgw_tree.specs.Limits.{Limits}
 use Rattle.pgw_tree.specs.ReadErrors.{fault_of}
-use Rattle.pgw_tree.specs.Causes.{PartWritten, header_cause}
+use Rattle.pgw_tree.specs.Causes.{WroteBehind, HeaderCause, bad_header, bad_flags, truncated_header, read_fault_in_header}
 use Rattle.pgw_tree.specs.Copying.{IsValuesRow, IsCopying}
 
 pub rows_more : (ts : List Shape) (body x : List ℕ) (rows : List (List Value)) (cells : List Cell) (vs : List Value) → AreRows ts body rows → IsRow cells x → SpellsRow ts cells vs → AreRows ts (body ++ x) (rows ++ (vs ∷ []))
@@ -60,32 +58,12 @@ none_copied limits ts Written header h written = record {
   written = subst Written (sym (append-nil canonical_header)) written;
 }
 
--- one row more
-pub one_copied : (limits : Limits) (ts : List Shape) (n : ℕ) (a b c : Option (List ℕ)) (s t u : Option Bool) (x y written : List ℕ) (vs : List Value) → IsCopying limits ts n (Wrote a b s t) x → n < limits.rows_max → IsValuesRow limits.field_max ts y vs → written ≡ canonical_row ts vs → Wrote b c t u written → IsCopying limits ts (suc n) (Wrote a c s u) (x ++ y)
-one_copied limits ts n a b c s t u x y written vs k more row is wrote = record {
-  rows = k.rows ++ (vs ∷ []);
-  begins = front_more limits.field_max ts x y k.rows vs k.begins row;
-  within = within_more limits ts k.rows vs k.within (omega (arith, more, k.many)) row.fit;
-  many = omega (arith, k.many, length-append k.rows (vs ∷ []));
-  written = subst (λ (l : List ℕ). Wrote a c s u l) (ap (λ l. canonical_front ts k.rows ++ l) is ∙ sym (canonical_more ts k.rows vs)) (wrote_then k.written wrote);
-}
-
--- what was written of what comes next
-pub part_written : {a b c : Option (List ℕ)} {s t u : Option Bool} (before next : List ℕ) → Wrote a b s t before → WroteFront b c t u next → PartWritten before next (Wrote a c s u)
-part_written before next w f = record { front = f.front; rest = f.rest; is = f.splits; written = wrote_then w f.wrote }
-
 -- what an error of the reader's header says
-pub header_says : (e : CopyReadError) (bytes : List ℕ) → header_fault e bytes → header_cause (fault_of e) bytes
-header_says BadHeader bytes h = h
-header_says (BadFlags flags) bytes h = h
-header_says Truncated bytes h = h
-header_says (BadFieldCount count) bytes h = h
-header_says ReadFault bytes h = h
-header_says NoMemory bytes h = absurd h
-
--- A fault is the one that was answered.
-pub says_at : {X : Type 0} (r : Result X CopyFault) (a b : Option (List ℕ)) (e : CopyFault) (Says : CopyFault → List ℕ → Type 0) → r ≡ Err e → Took a b (Says e) → (fault : CopyFault) → r ≡ Err fault → Took a b (Says fault)
-says_at r a b e Says is t fault h = let same : e ≡ fault = cc in subst (λ (f : CopyFault). Took a b (Says f)) same t
+pub header_says : (e : CopyReadError) (bytes : List ℕ) → HeaderError e bytes → HeaderCause (fault_of e) bytes
+header_says e bytes (refused_header (fixed_bad_header is bad)) = bad_header (ap fault_of is) bad
+header_says e bytes (refused_header (fixed_bad_flags flags is high)) = bad_flags flags (ap fault_of is) high
+header_says e bytes (cut_header (cut_off is cut)) = truncated_header (ap fault_of is) cut
+header_says e bytes (cut_header (cut_unread is cut)) = read_fault_in_header (ap fault_of is) cut
 
 -- Whether a sink tells that it is settled, a write leaves.
 pub told_after : (n : ℕ) (s : Option Bool) → option_map {U = Bool} (λ _. true) (settled_after n s) ≡ option_map (λ _. true) s
@@ -98,3 +76,16 @@ told_after n s = by_test (eqb n 0)
     by_test : (t : Bool) → option_map {U = Bool} (λ _. true) (cond t s (option_map (λ _. false) s)) ≡ option_map (λ _. true) s
     by_test true = refl
     by_test false = by_option s
+
+-- What was written, and then the end, which was settled.
+pub settled_then : {O : Type 0} {a b c : SinkState O} {x y : List ℕ} → Wrote a b x → Settled b c y → Settled a c (x ++ y)
+settled_then {a = a} {b = b} {c = c} {x = x} {y = y} w v = record {
+  appends = appends_then _ _ _ x y w.appends v.appends;
+  settles = v.settles ∙ ap (option_map (λ _. true)) w.settles ∙ told_after (length x) (settled a);
+  goes_on = goes_on_then a b c w.goes_on v.goes_on;
+}
+
+-- what was written of the end, or all of it
+pub behind_written : {O : Type 0} {a b c : SinkState O} {x next : List ℕ} → Wrote a b x → WroteFront (Wrote b c) next ⊎ Wrote b c next → WroteBehind (Wrote a c) x next ⊎ Wrote a c (x ++ next)
+behind_written w (inl f) = inl (record { front = f.front; rest = f.rest; is = f.is; missing = f.missing; written = wrote_then w f.written })
+behind_written w (inr v) = inr (wrote_then w v)

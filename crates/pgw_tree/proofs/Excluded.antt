@@ -1,5 +1,5 @@
 -- Where a fault says what it says, no front of the bytes is a stream within the limits.
-use Rattle.std.proofs.Common.{◌≡◌, ℕ, ℤ, ◌+◌, ◌<◌, ◌≤◌, List, [], ◌∷◌, ◌++◌, length, None, Some, refl, sym, ap, ◌∙◌, arith, append_assoc, append-nil, length-append, lit<, subst, inl, inr, ◌⊎◌}
+use Rattle.std.proofs.Common.{◌≡◌, ℕ, ℤ, ◌+◌, ◌<◌, ◌≤◌, List, [], ◌∷◌, ◌++◌, length, Some, refl, sym, ap, ◌∙◌, arith, append_assoc, append-nil, length-append, lit<, subst, inl, inr, ◌⊎◌}
 use Rattle.std.specs.List.{AllByRecursion}
 use Rattle.std.specs.Int.{to_be_bytes, w16, w32}
 use Rattle.pgw_wire.specs.Cell.{Cell}
@@ -7,20 +7,20 @@ use Rattle.pgw_wire.specs.declared.kind.Break.{Break}
 use Rattle.pgw_copy.specs.Format.{magic, IsFixedHeader, IsHeader, IsCutHeader, IsCount, IsRow, IsCutRow, trailer}
 use Rattle.pgw_copy.specs.Reader.{IsBadHeader, HasHighFlags, HasNegativeExtension, IsBadCount}
 use Rattle.pgw_tree.specs.declared.fault.CopyFault.{CopyFault}
-use Rattle.pgw_tree.specs.declared.fault.CopyFault.TheVariants.{BadHeader, BadFlags, Truncated, BadFieldCount, UnexpectedEndOfRow, BadValue, TooLong, RowLimit, ReadFault, WriteFault, NoMemory}
-use Rattle.pgw_tree.specs.Tree.{Shape, int4, text, nullable, Value}
-use Rattle.pgw_tree.specs.Spells.{SpellsPiece, Spells, SpellsRow}
+use Rattle.pgw_tree.specs.declared.fault.CopyFault.TheVariants.{Truncated, ReadFault, WriteFault, NoMemory}
+use Rattle.pgw_tree.specs.Tree.{Shape, Value}
+use Rattle.pgw_tree.specs.Spells.{Spells, SpellsRow}
 use Rattle.pgw_tree.specs.Canonical.{Fits, FitsRow}
-use Rattle.pgw_tree.specs.Breaks.{BreaksPiece, Breaks}
 use Rattle.pgw_tree.specs.Columns.{BreaksAt, IsLongAt}
 use Rattle.pgw_tree.specs.Stream.{AreRows, IsFront, IsValidStream}
 use Rattle.pgw_tree.specs.Limits.{Limits}
-use Rattle.pgw_tree.specs.Causes.{header_cause, row_cause, fault_says}
-use Rattle.pgw_copy.proofs.Lists.{same_front, same_rest}
-use Rattle.pgw_copy.proofs.Numbers.{same_number_2, same_number_4}
+use Rattle.pgw_tree.specs.Causes.{Form, HeaderCause, bad_header, bad_flags, truncated_header, read_fault_in_header, no_memory_at_first, RowCause, truncated, bad_field_count, unexpected_end_of_row, bad_value, too_long, row_limit, read_fault, no_memory, fault_says}
+use Rattle.pgw_wire.proofs.Lists.{same_front, same_rest}
+use Rattle.pgw_wire.proofs.Numbers.{same_number_2, same_number_4}
 use Rattle.pgw_copy.proofs.Headers.{IsApart, no_fixed_header, length-fixed, same_fixed, header_splits}
 use Rattle.pgw_tree.proofs.RowFields.{enough_cells, fields_once}
-use Rattle.pgw_tree.proofs.Unique.{count_is_not_end, header_once, cells_once, value_once}
+use Rattle.pgw_tree.proofs.Reading.{value_once, breaks_or_spells}
+use Rattle.pgw_tree.proofs.Unique.{count_is_not_end, header_once, cells_once}
 
 -- the faults that may come of any bytes
 abbrev pub IsOutside : CopyFault → Type 0
@@ -161,22 +161,12 @@ value_at most (u ∷ us) after t [] rest cell values each s fit = absurd (omega 
 value_at most (u ∷ us) after t (c ∷ cs) rest cell [] each s fit = absurd s
 value_at most (u ∷ us) after t (c ∷ cs) rest cell (v ∷ vs) each s fit = value_at most us after t cs rest cell vs (omega (arith, each)) s.1 fit.1
 
--- What breaks spells nothing.
-piece_breaks : (t : Shape) (kind : Break) (p : List ℕ) (v : Value) → BreaksPiece t kind p → SpellsPiece t p v → ⊥
-piece_breaks int4 kind p v b s = b.1 (ap length s.bytes)
-piece_breaks text kind p v b s = b.1 s.utf8
-piece_breaks (nullable t) kind p v b s = piece_breaks t kind p v b s
-
-cell_breaks : (t : Shape) (kind : Break) (cell : Cell) (v : Value) → Breaks t kind cell → Spells t cell v → ⊥
-cell_breaks t kind None v b s = absurd (cc (b.1, s.0))
-cell_breaks t kind (Some p) v b s = piece_breaks t kind p v b s
-
 breaks_fit : (limits : Limits) (ts : List Shape) (cells : List Cell) (column : ℕ) (kind : Break) → BreaksAt limits.field_max ts cells column kind → SpellsFit limits ts cells → ⊥
 breaks_fit limits ts cells column kind b s =
     let i = b.behind in
     let at = subst (λ (us : List Shape). SpellsFit limits us (i.spelling ++ (b.cell ∷ i.rest))) i.columns_are (subst (λ (cs : List Cell). SpellsFit limits ts cs) i.cells_are s) in
     let v = value_at limits.field_max i.before i.after b.t i.spelling i.rest b.cell at.0 i.each at.1 at.2 in
-    cell_breaks b.t kind b.cell v.0 b.breaks v.1
+    breaks_or_spells b.t b.cell v.0 kind v.1 b.breaks
 
 long_fit : (limits : Limits) (ts : List Shape) (cells : List Cell) (column : ℕ) → IsLongAt limits.field_max ts cells column → SpellsFit limits ts cells → ⊥
 long_fit limits ts cells column b s =
@@ -186,21 +176,18 @@ long_fit limits ts cells column b s =
     b.long (subst (λ (w : Value). Fits limits.field_max b.t w) (value_once b.t b.cell v.0 b.value v.1 b.spells) v.2)
 
 -- what a fault says behind rows
-row_excluded : (limits : Limits) (ts : List Shape) (before : ℕ) (fault : CopyFault) (bytes rest : List ℕ) → row_cause limits ts before fault bytes → (fault ≡ Truncated → rest ≡ []) → Goes limits ts before (bytes ++ rest) → IsOutside fault
-row_excluded limits ts before BadHeader bytes rest c end g = absurd c
-row_excluded limits ts before (BadFlags flags) bytes rest c end g = absurd c
-row_excluded limits ts before Truncated bytes rest c end g =
-    absurd (cut_goes limits ts before bytes c.0 (subst (λ (l : List ℕ). Goes limits ts before l) (ap (λ l. bytes ++ l) (end refl) ∙ append-nil bytes) g))
-row_excluded limits ts before (BadFieldCount count) bytes rest c end g = absurd (bad_count_goes limits ts before count bytes rest c g)
-row_excluded limits ts before (UnexpectedEndOfRow row) bytes rest c end g =
-    let s = row_goes limits ts before c.0 bytes rest c.1.is g in
-    absurd (omega (arith, c.2, enough_cells ts c.0 s.0 s.1))
-row_excluded limits ts before (BadValue row column kind) bytes rest c end g = absurd (breaks_fit limits ts c.0 column kind c.2 (row_goes limits ts before c.0 bytes rest c.1.is g))
-row_excluded limits ts before (TooLong row column) bytes rest c end g = absurd (long_fit limits ts c.0 column c.2 (row_goes limits ts before c.0 bytes rest c.1.is g))
-row_excluded limits ts before RowLimit bytes rest c end g = absurd (full_goes limits ts before c.0 bytes rest c.1 c.2 g)
-row_excluded limits ts before ReadFault bytes rest c end g = inl refl
-row_excluded limits ts before WriteFault bytes rest c end g = inr (inl refl)
-row_excluded limits ts before NoMemory bytes rest c end g = inr (inr refl)
+row_excluded : (limits : Limits) (ts : List Shape) (before : ℕ) (fault : CopyFault) (bytes rest : List ℕ) → RowCause limits ts before fault bytes → (fault ≡ Truncated → rest ≡ []) → Goes limits ts before (bytes ++ rest) → IsOutside fault
+row_excluded limits ts before fault bytes rest (truncated is cut) end g =
+    absurd (cut_goes limits ts before bytes cut.0 (subst (λ (l : List ℕ). Goes limits ts before l) (ap (λ l. bytes ++ l) (end is) ∙ append-nil bytes) g))
+row_excluded limits ts before fault bytes rest (bad_field_count count is bad) end g = absurd (bad_count_goes limits ts before count bytes rest bad g)
+row_excluded limits ts before fault bytes rest (unexpected_end_of_row cells is row few) end g =
+    let s = row_goes limits ts before cells bytes rest row.is g in
+    absurd (omega (arith, few, enough_cells ts cells s.0 s.1))
+row_excluded limits ts before fault bytes rest (bad_value cells column kind is row breaks) end g = absurd (breaks_fit limits ts cells column kind breaks (row_goes limits ts before cells bytes rest row.is g))
+row_excluded limits ts before fault bytes rest (too_long cells column is row long) end g = absurd (long_fit limits ts cells column long (row_goes limits ts before cells bytes rest row.is g))
+row_excluded limits ts before fault bytes rest (row_limit count is count_is full) end g = absurd (full_goes limits ts before count bytes rest count_is full g)
+row_excluded limits ts before fault bytes rest (read_fault is cut) end g = inl is
+row_excluded limits ts before fault bytes rest (no_memory is allowed part) end g = inr (inr is)
 
 -- Bytes that are no fixed part of a header.
 negative_fixed : (bytes : List ℕ) (extension : ℕ) → HasNegativeExtension bytes → IsFixedHeader bytes extension → ⊥
@@ -244,26 +231,20 @@ cut_header bytes header behind (inr cut) h e =
     let s = header_splits cut.0 cut.1 header behind cut.2 cut.3 h (sym cut.4 ∙ e) in
     omega (arith, cut.5, s.1, ap length (sym cut.4 ∙ e), length-append cut.0 cut.1, length-append header behind, ap length s.2, length-append cut.0 s.0)
 
-header_excluded : (fault : CopyFault) (bytes rest header behind : List ℕ) → header_cause fault bytes → (fault ≡ Truncated → rest ≡ []) → IsHeader header → bytes ++ rest ≡ header ++ behind → IsOutside fault
-header_excluded BadHeader bytes rest header behind c end h e = absurd (bad_fixed bytes (length h.extension) c (fixed_of bytes rest header behind h c.0 e))
-header_excluded (BadFlags flags) bytes rest header behind c end h e =
-    let nineteen : length bytes ≡ 19 = omega (arith, ap length c.is, length-append (magic ++ to_be_bytes w32 flags) c.rest, c.four) in
-    absurd (flags_fixed flags bytes (length h.extension) c (fixed_of bytes rest header behind h nineteen e))
-header_excluded Truncated bytes rest header behind c end h e = absurd (cut_header bytes header behind c h (sym (ap (λ l. bytes ++ l) (end refl) ∙ append-nil bytes) ∙ e))
-header_excluded (BadFieldCount count) bytes rest header behind c end h e = absurd c
-header_excluded (UnexpectedEndOfRow row) bytes rest header behind c end h e = absurd c
-header_excluded (BadValue row column kind) bytes rest header behind c end h e = absurd c
-header_excluded (TooLong row column) bytes rest header behind c end h e = absurd c
-header_excluded RowLimit bytes rest header behind c end h e = absurd c
-header_excluded ReadFault bytes rest header behind c end h e = inl refl
-header_excluded WriteFault bytes rest header behind c end h e = absurd c
-header_excluded NoMemory bytes rest header behind c end h e = inr (inr refl)
+header_excluded : (fault : CopyFault) (bytes rest header behind : List ℕ) → HeaderCause fault bytes → (fault ≡ Truncated → rest ≡ []) → IsHeader header → bytes ++ rest ≡ header ++ behind → IsOutside fault
+header_excluded fault bytes rest header behind (bad_header is bad) end h e = absurd (bad_fixed bytes (length h.extension) bad (fixed_of bytes rest header behind h bad.0 e))
+header_excluded fault bytes rest header behind (bad_flags flags is high) end h e =
+    let nineteen : length bytes ≡ 19 = omega (arith, ap length high.is, length-append (magic ++ to_be_bytes w32 flags) high.rest, high.four) in
+    absurd (flags_fixed flags bytes (length h.extension) high (fixed_of bytes rest header behind h nineteen e))
+header_excluded fault bytes rest header behind (truncated_header is cut) end h e = absurd (cut_header bytes header behind cut h (sym (ap (λ l. bytes ++ l) (end is) ∙ append-nil bytes) ∙ e))
+header_excluded fault bytes rest header behind (read_fault_in_header is cut) end h e = inl is
+header_excluded fault bytes rest header behind (no_memory_at_first is none) end h e = inr (inr is)
 
 -- Where a fault of the bytes says what it says, no front of all bytes is a stream within the limits.
-pub excluded : (limits : Limits) (ts : List Shape) (fault : CopyFault) (Written : List ℕ → Type 0) (taken rest front behind : List ℕ) → fault_says limits ts fault Written taken → (fault ≡ Truncated → rest ≡ []) → IsValidStream limits ts front → taken ++ rest ≡ front ++ behind → (fault ≡ ReadFault) ⊎ (fault ≡ WriteFault) ⊎ (fault ≡ NoMemory)
-excluded limits ts fault Written taken rest front behind (inl h) end v e =
+pub excluded : (limits : Limits) (ts : List Shape) (form : Form) (fault : CopyFault) (Written : List ℕ → Type 0) (taken rest front behind : List ℕ) → fault_says limits ts form fault Written taken → (fault ≡ Truncated → rest ≡ []) → IsValidStream limits ts front → taken ++ rest ≡ front ++ behind → IsOutside fault
+excluded limits ts form fault Written taken rest front behind (inl h) end v e =
     header_excluded fault taken rest v.1.begins.header (v.1.begins.body ++ (trailer ++ behind)) h.0 end v.1.begins.begins (e ∙ stream_parts limits ts front behind v)
-excluded limits ts fault Written taken rest front behind (inr (inl s)) end v e =
+excluded limits ts form fault Written taken rest front behind (inr (inl s)) end v e =
     row_excluded limits ts (length s.rows) fault s.behind rest s.cause end
     (goes limits ts s.front (s.behind ++ rest) front behind s.rows s.begins v (sym (ap (λ l. l ++ rest) s.is ∙ append_assoc s.front s.behind rest) ∙ e))
-excluded limits ts fault Written taken rest front behind (inr (inr w)) end v e = inr (inl w.0)
+excluded limits ts form fault Written taken rest front behind (inr (inr w)) end v e = inr (inl w.0)

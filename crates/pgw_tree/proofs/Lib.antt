@@ -1,11 +1,16 @@
+pub mod Readers
+pub mod Int4
+pub mod Text
+pub mod Reading
 pub mod Pieces
-pub mod Texts
 pub mod Prefixes
 pub mod RowFields
 pub mod Unique
 pub mod Excluded
 pub mod Worked
 pub mod WorkedColumns
+pub mod WorkedScalars
+pub mod WorkedRuns
 pub mod WorkedCauses
 pub mod Parts
 pub mod Copies

@@ -1,47 +1,31 @@
 -- How the answers of calls that take a part of a stream make that of a call of the copy.
-use Rattle.std.proofs.Common.{◌≡◌, ℕ, ◌<◌, List, [], ◌++◌, Option, subst, None, Some, Bool, true, false, Result, Ok, Err, refl, sym, ap, ◌∙◌, arith, inl, inr}
-use Rattle.std.specs.Prelude.{is_some}
+use Rattle.std.proofs.Common.{◌≡◌, ℕ, ◌<◌, List, [], ◌++◌, length, Option, subst, None, Some, Bool, true, false, Result, Err, refl, ap, arith, inl, inr}
+use Rattle.std.specs.Prelude.{◌≢◌, is_some}
 use mathlib.Core.Bool.{not}
-use Rattle.std.specs.Result.{IsErrAnd}
 use Rattle.std.specs.Prelude.{IfErr}
-use Rattle.std.proofs.lemmas.Result.{err_from_is_err_and}
-use Rattle.std.specs.Io.KnownBytes.{IsAtEnd}
-use Rattle.pgw_wire.specs.Outside.{Took, Wrote}
-use Rattle.pgw_wire.proofs.Adding.{wrote_none}
-use Rattle.pgw_wire.proofs.Taking.{took_then, took_weaker}
+use Rattle.std.specs.Int.{to_be_bytes, w16}
+use Rattle.pgw_wire.specs.Cell.{Cell}
+use Rattle.pgw_wire.specs.Outside.{SourceState, SinkState, Took, HasFailed, Wrote, WroteFront}
+use Rattle.pgw_wire.proofs.Taking.{took_then, takes_first_as, takes_later_as}
 use Rattle.pgw_copy.specs.declared.fault.CopyReadError.{CopyReadError}
 use Rattle.pgw_copy.specs.declared.fault.CopyReadError.TheVariants.{BadHeader, BadFlags, Truncated as reader_truncated, BadFieldCount, ReadFault as reader_failed, NoMemory}
-use Rattle.pgw_copy.specs.Format.{IsCount}
-use Rattle.pgw_copy.specs.Reader.{Takes, kept_fault, count_fault, AreCutFields, AreWholeFields}
-use Rattle.pgw_copy.proofs.Reading.{cut_row, row_of}
+use Rattle.pgw_copy.specs.Format.{IsCount, AreFields}
+use Rattle.pgw_copy.specs.Reader.{Reads, truncated as cut_off, read_fault as cut_unread, KeptError, cut_short, no_memory as kept_no_memory, CountError, bad_count, cut_count, AreCutFields, AreWholeFields}
+use Rattle.pgw_copy.proofs.Reading.{is_cut_row, row_of}
+use Rattle.pgw_tree.specs.declared.cells.SendFault.{SendFault}
+use Rattle.pgw_tree.specs.declared.cells.SendFault.TheVariants.{TooFew as send_too_few, BadValue as send_bad_value, TooLong as send_too_long, WriteFault as send_write_fault, NoMemory as send_no_memory}
 use Rattle.pgw_tree.specs.declared.fault.CopyFault.{CopyFault}
-use Rattle.pgw_tree.specs.declared.fault.CopyFault.TheVariants.{Truncated, ReadFault}
-use Rattle.pgw_tree.specs.Tree.{Shape}
+use Rattle.pgw_tree.specs.declared.fault.CopyFault.TheVariants.{Truncated, ReadFault, WriteFault}
+use Rattle.pgw_tree.specs.Tree.{Shape, Value}
+use Rattle.pgw_tree.specs.Canonical.{canonical_row}
 use Rattle.pgw_tree.specs.Limits.{Limits}
 use Rattle.pgw_tree.specs.ReadErrors.{fault_of}
-use Rattle.pgw_tree.specs.Causes.{row_cause}
-use Rattle.pgw_tree.specs.Copying.{TakesPart}
-
-along : {Z : Type 0} (R : Z → Type 0) {u v : Z} → u ≡ v → R u → R v
-along R e p = rw (← e) p
-
--- all was taken
-pub part_done : {X : Type 0} {a b : Option (List ℕ)} {F : Type 0} (x : X) (P : X → List ℕ → Type 0) (Fault : CopyFault → List ℕ → Type 0) → Took a b (P x) → TakesPart a b F (Ok x) P Fault
-part_done x P Fault t = record {
-  ok = λ y e. let same : x ≡ y = cc in took_weaker t (λ bytes p. along (λ z. P z bytes) same p);
-  err = λ e h. absurd (cc);
-  at_end = λ h. absurd (cc);
-  has_failed = λ h. absurd (cc);
-}
-
--- a fault, for which each cause is shown
-pub part_error : {X : Type 0} {a b : Option (List ℕ)} {F : Type 0} (e : CopyFault) (P : X → List ℕ → Type 0) (Fault : CopyFault → List ℕ → Type 0) → Took a b (Fault e) → (e ≡ Truncated → IsAtEnd b) → (e ≡ ReadFault → F) → TakesPart {X = X} a b F (Err e) P Fault
-part_error e P Fault t end failed = record {
-  ok = λ y h. absurd (cc);
-  err = λ d h. let same : e ≡ d = cc in took_weaker t (λ bytes p. along (λ z. Fault z bytes) same p);
-  at_end = λ h. end (cc);
-  has_failed = λ h. failed (cc);
-}
+use Rattle.pgw_tree.specs.Columns.{SpellsFit}
+use Rattle.pgw_tree.specs.Causes.{IsRowAt, RowCause, truncated, bad_field_count, unexpected_end_of_row, bad_value, too_long, read_fault, no_memory}
+use Rattle.pgw_tree.specs.Copying.{Copies}
+use Rattle.pgw_tree.specs.Sending.{SendCause, has_too_few, has_break, has_long, has_broken, lacks_memory, in_row}
+use Rattle.pgw_tree.specs.Runs.{rows_fault}
+use Rattle.pgw_tree.proofs.Runs.{broken_one}
 
 is_truncated : (e : CopyReadError) → fault_of e ≡ Truncated → e ≡ reader_truncated
 is_truncated BadHeader h = absurd (cc)
@@ -59,48 +43,75 @@ is_failed (BadFieldCount count) h = absurd (cc)
 is_failed reader_failed h = refl
 is_failed NoMemory h = absurd (cc)
 
--- what the exit of a `?` returns
-pub fault_exit : {X E : Type 0} (r : Result X E) (f : E) → IsErrAnd r (λ y. y ≡ f) → r ≡ Err f
-fault_exit r f h = let p = err_from_is_err_and r h in p.1 ∙ ap Err p.2
-
 -- what is said of an error, at the one that was answered
 pub said_at : {X E : Type 0} (r : Result X E) (e : E) (P : E → Type 0) → r ≡ Err e → IfErr r P → P e
 said_at {X = X} {E = E} r e P is h = subst (λ (s : Result X E). IfErr s P) is h
 
--- The sink is as before, so nothing was written.
-pub wrote_still : {Z : Type 0} (gained : Z → Option (List ℕ)) (settled : Z → Option Bool) (before now : Z) → now ≡ before → Wrote (gained before) (gained now) (settled before) (settled now) []
-wrote_still {Z = Z} gained settled before now same = subst (λ (z : Z). Wrote (gained before) (gained z) (settled before) (settled z) []) (sym same) (wrote_none (gained before) (settled before))
-
 -- The reader's error is the fault of the call.
-pub part_first : {X Y : Type 0} {a b : Option (List ℕ)} {F F1 : Type 0} {P1 : Y → List ℕ → Type 0} {Fault1 : CopyReadError → List ℕ → Type 0} {r : Result X CopyFault} {e : CopyReadError} (P : X → List ℕ → Type 0) (Fault : CopyFault → List ℕ → Type 0)
-    → r ≡ Err (fault_of e) → Takes {X = Y} a b F1 (Err e) P1 Fault1 → (F1 → F) → ((bytes : List ℕ) → Fault1 e bytes → Fault (fault_of e) bytes) → TakesPart a b F r P Fault
-part_first {X = X} {a = a} {b = b} {F = F} {e = e} P Fault is u failed stops =
-    along (λ s. TakesPart {X = X} a b F s P Fault) (sym is) (part_error (fault_of e) P Fault (took_weaker (u.err e refl) stops) (λ h. u.at_end (ap Err (is_truncated e h))) (λ h. failed (u.has_failed (ap Err (is_failed e h)))))
+pub reader_first : {X Y O : Type 0} {a b : SourceState O} {P1 : Y → List ℕ → Type 0} {Fault1 : CopyReadError → List ℕ → Type 0} {r : Result X CopyFault} {e : CopyReadError} (P : X → List ℕ → Type 0) (Fault : CopyFault → List ℕ → Type 0)
+    → r ≡ Err (fault_of e) → Reads {X = Y} a b (Err e) P1 Fault1 → ((bytes : List ℕ) → Fault1 e bytes → Fault (fault_of e) bytes) → Copies a b r P Fault
+reader_first {e = e} P Fault is u stops = takes_first_as fault_of P Fault is u (is_truncated e) (is_failed e) stops
 
 -- the same behind what was taken before
-pub part_later : {X Y : Type 0} {a b c : Option (List ℕ)} {F F1 : Type 0} {P0 : List ℕ → Type 0} {P1 : Y → List ℕ → Type 0} {Fault1 : CopyReadError → List ℕ → Type 0} {r : Result X CopyFault} {e : CopyReadError} (P : X → List ℕ → Type 0) (Fault : CopyFault → List ℕ → Type 0)
-    → r ≡ Err (fault_of e) → Took a b P0 → Takes {X = Y} b c F1 (Err e) P1 Fault1 → (F1 → F) → ((first second : List ℕ) → P0 first → Fault1 e second → Fault (fault_of e) (first ++ second)) → TakesPart a c F r P Fault
-part_later {X = X} {a = a} {c = c} {F = F} {e = e} P Fault is t u failed stops =
-    along (λ s. TakesPart {X = X} a c F s P Fault) (sym is) (part_error (fault_of e) P Fault (took_then t (u.err e refl) stops) (λ h. u.at_end (ap Err (is_truncated e h))) (λ h. failed (u.has_failed (ap Err (is_failed e h)))))
+pub reader_later : {X Y O : Type 0} {a b c : SourceState O} {P0 : List ℕ → Type 0} {P1 : Y → List ℕ → Type 0} {Fault1 : CopyReadError → List ℕ → Type 0} {r : Result X CopyFault} {e : CopyReadError} (P : X → List ℕ → Type 0) (Fault : CopyFault → List ℕ → Type 0)
+    → r ≡ Err (fault_of e) → Took a b P0 → Reads {X = Y} b c (Err e) P1 Fault1 → ((first second : List ℕ) → P0 first → Fault1 e second → Fault (fault_of e) (first ++ second)) → Copies a c r P Fault
+reader_later {e = e} P Fault is t u stops = takes_later_as fault_of P Fault is t u (is_truncated e) (is_failed e) stops
 
 -- what an error of a count says of the rows behind it
-pub count_cause : (limits : Limits) (ts : List Shape) (rows : ℕ) (e : CopyReadError) (bytes : List ℕ) → count_fault e bytes → row_cause limits ts rows (fault_of e) bytes
-count_cause limits ts rows BadHeader bytes h = absurd h
-count_cause limits ts rows (BadFlags flags) bytes h = absurd h
-count_cause limits ts rows reader_truncated bytes h = (inl h, λ two. omega (arith, h, two))
-count_cause limits ts rows (BadFieldCount count) bytes h = h
-count_cause limits ts rows reader_failed bytes h = (inl h, λ two. omega (arith, h, two))
-count_cause limits ts rows NoMemory bytes h = absurd h
+pub count_cause : (limits : Limits) (ts : List Shape) (rows : ℕ) (e : CopyReadError) (bytes : List ℕ) → CountError e bytes → RowCause limits ts rows (fault_of e) bytes
+count_cause limits ts rows e bytes (bad_count count is bad) = bad_field_count count (ap fault_of is) bad
+count_cause limits ts rows e bytes (cut_count (cut_off is short)) = truncated (ap fault_of is) (inl short, λ two. omega (arith, short, two))
+count_cause limits ts rows e bytes (cut_count (cut_unread is short)) = read_fault (ap fault_of is) (inl short, λ two. omega (arith, short, two))
 
 -- what an error of the fields behind a count says of the row
-pub fields_cause : (limits : Limits) (ts : List Shape) (rows n : ℕ) (e : CopyReadError) (x y : List ℕ) → rows < limits.rows_max → IsCount (Some n) x → kept_fault (AreCutFields n) (AreWholeFields n) e y → row_cause limits ts rows (fault_of e) (x ++ y)
-fields_cause limits ts rows n BadHeader x y allowed count h = absurd h
-fields_cause limits ts rows n (BadFlags flags) x y allowed count h = absurd h
-fields_cause limits ts rows n reader_truncated x y allowed count h = (cut_row n x y count h, λ _. allowed)
-fields_cause limits ts rows n (BadFieldCount c) x y allowed count h = absurd h
-fields_cause limits ts rows n reader_failed x y allowed count h = (cut_row n x y count h, λ _. allowed)
-fields_cause limits ts rows n NoMemory x y allowed count (inl cut) = (allowed, inl (cut_row n x y count cut))
-fields_cause limits ts rows n NoMemory x y allowed count (inr whole) = (allowed, inr (whole.0, row_of n whole.0 x y count whole.1 whole.2))
+pub fields_cause : (limits : Limits) (ts : List Shape) (rows n : ℕ) (e : CopyReadError) (x y : List ℕ) → rows < limits.rows_max → IsCount (Some n) x → KeptError (AreCutFields n) (AreWholeFields n) e y → RowCause limits ts rows (fault_of e) (x ++ y)
+fields_cause limits ts rows n e x y allowed count (cut_short (cut_off is cut)) = truncated (ap fault_of is) (is_cut_row n x y count cut, λ _. allowed)
+fields_cause limits ts rows n e x y allowed count (cut_short (cut_unread is cut)) = read_fault (ap fault_of is) (is_cut_row n x y count cut, λ _. allowed)
+fields_cause limits ts rows n e x y allowed count (kept_no_memory is (inl cut)) = no_memory (ap fault_of is) allowed (inl (is_cut_row n x y count cut))
+fields_cause limits ts rows n e x y allowed count (kept_no_memory is (inr whole)) = no_memory (ap fault_of is) allowed (inr (whole.0, row_of n whole.0 x y count whole.1 whole.2))
+
+-- A count and the fields behind it were taken: a row of the cells that are lent.
+pub row_taken : (limits : Limits) (before n : ℕ) {O : Type 0} {a b c : SourceState O} (cells : List Cell) (lent : List ℕ) → before < limits.rows_max → length cells ≡ n
+    → Took a b (IsCount (Some n)) → Took b c (λ taken. AreFields cells taken × (lent ≡ to_be_bytes w16 n ++ taken)) → Took a c (IsRowAt limits before cells)
+row_taken limits before n cells lent allowed many counted each =
+    took_then counted each (λ x y count fields. record { allowed = allowed; is = row_of n cells x y count many fields.0 })
+
+-- Where nothing was sent, the sink did not fail.
+pub filled_cause : {most : ℕ} {ts : List Shape} {cells : List Cell} (Broken : Type 0) (fault : SendFault) → SendCause most ts cells ⊥ fault → SendCause most ts cells Broken fault
+filled_cause Broken fault (has_too_few is few) = has_too_few is few
+filled_cause Broken fault (has_break column kind is breaks) = has_break column kind is breaks
+filled_cause Broken fault (has_long column is long) = has_long column is long
+filled_cause Broken fault (has_broken is broken) = absurd broken
+filled_cause Broken fault (lacks_memory is) = lacks_memory is
+
+-- What was wrong with the values of a row, said of the row.
+pub sent_cause : (limits : Limits) (ts : List Shape) (rows : ℕ) {O : Type 0} {a b : SinkState O} (cells : List Cell) (bytes : List ℕ) (fault : SendFault) → IsRowAt limits rows cells bytes
+    → SendCause limits.field_max ts cells ((values : List Value) × SpellsFit limits.field_max ts cells values × WroteFront (Wrote a b) (canonical_row ts values) × HasFailed a b) fault
+    → (fault ≢ send_write_fault → Wrote a b []) → rows_fault limits ts rows (Wrote a b) (in_row rows fault) bytes
+sent_cause limits ts rows cells bytes fault row (has_too_few is few) still = inl (unexpected_end_of_row cells (ap (in_row rows) is) row few, still (λ e. absurd (cc (is, e))))
+sent_cause limits ts rows cells bytes fault row (has_break column kind is breaks) still = inl (bad_value cells column kind (ap (in_row rows) is) row breaks, still (λ e. absurd (cc (is, e))))
+sent_cause limits ts rows cells bytes fault row (has_long column is long) still = inl (too_long cells column (ap (in_row rows) is) row long, still (λ e. absurd (cc (is, e))))
+sent_cause limits ts rows cells bytes fault row (has_broken is broken) still = inr (
+  ap (in_row rows) is,
+  broken_one limits ts rows bytes broken.0 row.allowed (record { cells = cells; is = row.is; spelled = broken.1.spelled; fit = broken.1.fit }) broken.2,
+)
+sent_cause limits ts rows cells bytes fault row (lacks_memory is) still = inl (no_memory (ap (in_row rows) is) row.allowed (inr (cells, row.is)), still (λ e. absurd (cc (is, e))))
+
+-- What is wrong with a row is neither the end of the source nor a fault of it.
+pub is_inside : (rows : ℕ) (fault : SendFault) → (in_row rows fault ≢ Truncated) × (in_row rows fault ≢ ReadFault)
+is_inside rows send_too_few = ((λ e. absurd (cc)), (λ e. absurd (cc)))
+is_inside rows (send_bad_value column kind) = ((λ e. absurd (cc)), (λ e. absurd (cc)))
+is_inside rows (send_too_long column) = ((λ e. absurd (cc)), (λ e. absurd (cc)))
+is_inside rows send_write_fault = ((λ e. absurd (cc)), (λ e. absurd (cc)))
+is_inside rows send_no_memory = ((λ e. absurd (cc)), (λ e. absurd (cc)))
+
+-- The sink failed where the fault says so.
+pub sent_failed : {most : ℕ} {ts : List Shape} {cells : List Cell} {Broken Failed : Type 0} (rows : ℕ) (fault : SendFault) → SendCause most ts cells Broken fault → (Broken → Failed) → in_row rows fault ≡ WriteFault → Failed
+sent_failed rows fault (has_too_few is few) failed e = absurd (cc (is, e))
+sent_failed rows fault (has_break column kind is breaks) failed e = absurd (cc (is, e))
+sent_failed rows fault (has_long column is long) failed e = absurd (cc (is, e))
+sent_failed rows fault (has_broken is broken) failed e = failed broken
+sent_failed rows fault (lacks_memory is) failed e = absurd (cc (is, e))
 
 pub some_count : (o : Option ℕ) (none : Bool) → is_some o ≡ not none → none ≡ false → (n : ℕ) × (o ≡ Some n)
 some_count None none e is = absurd (cc)

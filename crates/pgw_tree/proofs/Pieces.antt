@@ -1,30 +1,29 @@
 -- The pieces of fields, by the types of their columns.
-use Rattle.std.proofs.Common.{◌≡◌, ℕ, ◌<◌, ◌^◌, List, length, get_or, Some, Fits, w32, refl, sym, ap, ◌∙◌, arith}
-use Rattle.std.specs.Int.{to_be_bytes, from_be_bytes, cast_signed}
-use Rattle.std.proofs.lemmas.Int.{of_z-to_z}
-use Rattle.std.proofs.lemmas.Nat.{be_bytes_4}
-use Rattle.std.proofs.Math.Facts.{sfits_to_z}
-use Rattle.pgw_tree.specs.Tree.{Shape, int4, text, nullable, Value, number}
-use Rattle.pgw_tree.specs.Spells.{SpellsPiece}
-use Rattle.pgw_tree.specs.Canonical.{canonical_cell}
+use Rattle.std.proofs.Common.{◌≡◌, ℕ, List, length, None, Some, refl, sym, ap, ◌∙◌, subst}
+use Rattle.pgw_wire.specs.Cell.{Cell, size_of}
+use Rattle.pgw_tree.specs.Tree.{Shape, int4, text, nullable, Value}
+use Rattle.pgw_tree.specs.Pieces.{SpellsPiece}
+use Rattle.pgw_tree.specs.Spells.{Spells}
+use Rattle.pgw_tree.specs.Canonical.{canonical_cell, canonical_size}
 
--- Any four bytes spell a number.
-pub four_spelled : (piece : List ℕ) → length piece ≡ 4 → ((i : ℕ) → get_or piece i 0 < 256) → (v : Value) × SpellsPiece int4 piece v
-four_spelled piece four bytes =
-    let m = from_be_bytes w32 piece in
-    let below : m < 2 ^ 32 = omega (arith, four, bytes 0, bytes 1, bytes 2, bytes 3) in
-    let fits : Fits w32 m = record { fits = below } in (
-      number (cast_signed w32 m),
-      record {
-        n = cast_signed w32 m;
-        fits = sfits_to_z fits;
-        bytes = sym (ap (to_be_bytes w32) (of_z-to_z w32 m below) ∙ be_bytes_4 piece m four bytes refl);
-        is = refl;
-      },
-    )
+-- A piece that spells a value is the one that the value is written as, and has its size.
+piece_is : (t : Shape) (p : List ℕ) (v : Value) → SpellsPiece t p v → (canonical_cell t v ≡ Some p) × (canonical_size t v ≡ length p)
+piece_is int4 p v s = (ap (canonical_cell int4) s.2 ∙ ap Some (sym s.1.bytes), ap (canonical_size int4) s.2 ∙ sym (ap length s.1.bytes))
+piece_is text p v s = (ap (canonical_cell text) s.2 ∙ ap Some (sym s.1.bytes), ap (canonical_size text) s.2 ∙ sym (ap length s.1.bytes))
+piece_is (nullable t) p v s = piece_is t p v s
 
--- A value is written as the piece that spells it.
-pub canonical_is : (t : Shape) (piece : List ℕ) (v : Value) → SpellsPiece t piece v → canonical_cell t v ≡ Some piece
-canonical_is int4 piece v s = ap (canonical_cell int4) s.is ∙ ap Some (sym s.bytes)
-canonical_is text piece v s = ap (canonical_cell text) s.is
-canonical_is (nullable t) piece v s = canonical_is t piece v s
+pub canonical_is : (t : Shape) (p : List ℕ) (v : Value) → SpellsPiece t p v → canonical_cell t v ≡ Some p
+canonical_is t p v s = (piece_is t p v s).0
+
+pub size_is : (t : Shape) (p : List ℕ) (v : Value) → SpellsPiece t p v → canonical_size t v ≡ length p
+size_is t p v s = (piece_is t p v s).1
+
+-- The size of a value's canonical cell is how many bytes that has.
+pub sized : (t : Shape) (c : Cell) (v : Value) → Spells t c v → canonical_size t v ≡ size_of (canonical_cell t v)
+sized t None v s = ap (canonical_size t) s.1 ∙ sym (ap (λ w. size_of (canonical_cell t w)) s.1)
+sized t (Some p) v s = size_is t p v s ∙ sym (ap size_of (canonical_is t p v s))
+
+-- A value's canonical cell spells it.
+pub canonical_spells : (t : Shape) (c : Cell) (v : Value) → Spells t c v → Spells t (canonical_cell t v) v
+canonical_spells t None v s = subst (λ (w : Value). Spells t (canonical_cell t w) w) (sym s.1) (s.0, refl)
+canonical_spells t (Some p) v s = subst (λ (c : Cell). Spells t c v) (sym (canonical_is t p v s)) s

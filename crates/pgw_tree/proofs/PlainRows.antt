@@ -1,10 +1,10 @@
 -- Bytes that are canonical as they stand.
-use Rattle.std.proofs.Common.{◌≡◌, ℕ, ◌<◌, ◌≤◌, ◌^◌, List, [], ◌∷◌, ◌++◌, length, true, None, Some, refl, sym, ap, ◌∙◌, arith, append_assoc, append-nil, subst, length-append, lit<, Option, take, ◌-◌}
+use Rattle.std.proofs.Common.{◌≡◌, ℕ, ◌<◌, ◌≤◌, ◌^◌, List, [], ◌∷◌, ◌++◌, length, true, None, Some, refl, sym, ap, ◌∙◌, arith, append_assoc, append-nil, subst, length-append, lit<, Option, take, ◌-◌, Bor}
 use Rattle.std.specs.Prelude.{IfSome, IsSome, IsNone}
 use Rattle.std.proofs.Math.Seq.{take-append_seam, take-length}
 use Rattle.std.specs.Io.{StartsWith}
-use Rattle.pgw_copy.proofs.Lists.{same_front, same_rest}
-use Rattle.pgw_copy.proofs.Numbers.{same_number_2}
+use Rattle.pgw_wire.proofs.Lists.{same_front, same_rest}
+use Rattle.pgw_wire.proofs.Numbers.{same_number_2}
 use Rattle.pgw_tree.proofs.Unique.{cells_once}
 use Rattle.std.specs.List.{flat_map, AllByRecursion}
 use Rattle.std.specs.Int.{to_be_bytes, w16}
@@ -12,12 +12,14 @@ use Rattle.std.proofs.lemmas.Grind.{flat_map-append}
 use Rattle.pgw_wire.specs.Cell.{Cell, frame}
 use Rattle.pgw_copy.specs.Format.{IsField, AreFields, IsRow}
 use Rattle.pgw_tree.specs.Tree.{Shape, Value, nullable, null, is_nullable}
-use Rattle.pgw_tree.specs.Spells.{Spells, SpellsPiece, SpellsRow}
-use Rattle.pgw_tree.specs.Canonical.{FitsRow, canonical_cell, size_of, canonical_cells, canonical_row}
+use Rattle.pgw_tree.specs.Pieces.{SpellsPiece}
+use Rattle.pgw_tree.specs.Spells.{Spells, SpellsRow}
+use Rattle.pgw_tree.specs.Canonical.{FitsRow, canonical_cell, canonical_cells, canonical_row}
 use Rattle.pgw_tree.specs.Stream.{AreRows}
+use Rattle.pgw_tree.specs.Columns.{SpellsFit}
 use Rattle.pgw_tree.specs.Plain.{IsPlainPieceBefore, IsPlainField, IsPlainRow, ArePlainRows}
 use Rattle.pgw_copy.proofs.Fields.{fields_append}
-use Rattle.pgw_tree.proofs.Pieces.{canonical_is}
+use Rattle.pgw_tree.proofs.Pieces.{canonical_is, size_is}
 use Rattle.pgw_tree.proofs.Prefixes.{spells_more, fits_more, canonical_more}
 
 pub plain_piece : (most : ℕ) (t : Shape) (piece : List ℕ) (v : Value) → most < 2 ^ 31 → SpellsPiece t piece v → length piece ≤ most → IsPlainField most t (frame (Some piece))
@@ -26,7 +28,7 @@ plain_piece most t piece v max spelled long =
     record {
       value = v;
       spells = subst (λ (c : Cell). Spells t c v) (sym is) spelled;
-      fits = subst (λ (c : Cell). size_of c ≤ most) (sym is) long;
+      fits = subst (λ (n : ℕ). n ≤ most) (sym (size_is t piece v spelled)) long;
       field = subst (λ (c : Cell). IsField c (frame (Some piece))) (sym is) (omega (arith, max, long), refl);
       is = ap frame (sym is);
     }
@@ -44,20 +46,23 @@ plain_null most t may_be = record {
 }
 
 -- what the field of a piece in front of the rest says of a type
-pub plain_at : (most : ℕ) (t u : Shape) (bytes rest : List ℕ) → most < 2 ^ 31 → u ≡ t → IsPlainPieceBefore most t bytes rest → (field : List ℕ) × IsPlainField most u field × (bytes ≡ field ++ rest)
+plain_at : (most : ℕ) (t u : Shape) (bytes rest : List ℕ) → most < 2 ^ 31 → u ≡ t → IsPlainPieceBefore most t bytes rest → (field : List ℕ) × IsPlainField most u field × (bytes ≡ field ++ rest)
 plain_at most t u bytes rest max is p =
     (frame (Some p.piece), subst (λ (s : Shape). IsPlainField most s (frame (Some p.piece))) (sym is) (plain_piece most t p.piece p.value max p.spells p.fits), p.is)
 
 -- A nullable type has the pieces of its part.
-pub plain_nullable : (most : ℕ) (t : Shape) (bytes rest : List ℕ) → IsPlainPieceBefore most t bytes rest → IsPlainPieceBefore most (nullable t) bytes rest
-plain_nullable most t bytes rest p = record { piece = p.piece; value = p.value; spells = p.spells; fits = p.fits; is = p.is }
-
-pub null_at : (most : ℕ) (t u : Shape) (bytes rest : List ℕ) → u ≡ nullable t → bytes ≡ frame None ++ rest → (field : List ℕ) × IsPlainField most u field × (bytes ≡ field ++ rest)
-null_at most t u bytes rest is e = (frame None, subst (λ (s : Shape). IsPlainField most s (frame None)) (sym is) (plain_null most (nullable t) refl), e)
+pub nullable_at : {most : ℕ} {t u : Shape} {bytes rest : List ℕ} → most < 2 ^ 31 → u ≡ nullable t → IsPlainPieceBefore most t bytes rest → (field : List ℕ) × IsPlainField most u field × (bytes ≡ field ++ rest)
+nullable_at {most = most} {t = t} {u = u} {bytes = bytes} {rest = rest} max is p = plain_at most (nullable t) u bytes rest max is record { piece = p.piece; value = p.value; spells = p.spells; fits = p.fits; is = p.is }
 
 pub some_weaker : {A : Type 0} (r : Option A) (P Q : A → Type 0) → IfSome r P → ((x : A) → P x → Q x) → IfSome r Q
 some_weaker None P Q h w = tt
 some_weaker (Some x) P Q h w = w x h
+
+pub plain_some : (most : ℕ) (t u : Shape) (bytes : List ℕ) (r : Option (Bor (List ℕ))) → most < 2 ^ 31 → u ≡ t → IfSome r (λ rest. IsPlainPieceBefore most t bytes rest.now) → IfSome r (λ rest. (field : List ℕ) × IsPlainField most u field × (bytes ≡ field ++ rest.now))
+plain_some most t u bytes r max is h = some_weaker r _ _ h (λ rest p. plain_at most t u bytes rest.now max is p)
+
+pub null_some : (most : ℕ) (u : Shape) (bytes : List ℕ) (r : Option (Bor (List ℕ))) → IfSome r (λ rest. bytes ≡ frame None ++ rest.now) → is_nullable u ≡ true → IfSome r (λ rest. (field : List ℕ) × IsPlainField most u field × (bytes ≡ field ++ rest.now))
+null_some most u bytes r h may_be = some_weaker r _ _ h (λ rest e. (frame None, plain_null most u may_be, e))
 
 pub some_at : {A : Type 0} (r : Option A) (x : A) (P : A → Type 0) → r ≡ Some x → IfSome r P → P x
 some_at {A = A} r x P is h = subst (λ (o : Option A). IfSome o P) is h
@@ -157,7 +162,7 @@ cells_plain most ts cells bytes values row plain =
 
 -- The one canonical row that lent bytes are, told by the cells of the row that is lent.
 pub plain_told : (most : ℕ) (ts : List Shape) (cells : List Cell) (lent bytes front : List ℕ) (rows : List (List Value)) → IsRow cells lent → bytes ≡ lent → StartsWith bytes front → length front ≡ length bytes → length rows ≡ 1 → ArePlainRows most ts front rows
-    → (values : List Value) × SpellsRow ts cells values × FitsRow most ts values × (bytes ≡ canonical_row ts values)
+    → (values : List Value) × SpellsFit most ts cells values × (bytes ≡ canonical_row ts values)
 plain_told most ts cells lent bytes front rows row is starts long one each =
     let p = one_plain_row most ts front bytes rows one each (all_of_front front bytes starts long) in
-    (p.0, cells_plain most ts cells bytes p.0 (subst (λ (l : List ℕ). IsRow cells l) (sym is) row) p.1, p.1.row.fit, p.1.is)
+    (p.0, record { spelled = cells_plain most ts cells bytes p.0 (subst (λ (l : List ℕ). IsRow cells l) (sym is) row) p.1; fit = p.1.row.fit }, p.1.is)

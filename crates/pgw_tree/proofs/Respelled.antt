@@ -2,38 +2,40 @@
 use Rattle.std.proofs.Common.{◌≡◌, ℕ, ◌+◌, ◌<◌, ◌^◌, List, [], ◌∷◌, ◌++◌, length, refl, sym, ap, ◌∙◌, arith, subst, append_assoc, append-nil, length-append, ◌≤◌, lit<, None, Some}
 use Rattle.std.specs.List.{flat_map}
 use Rattle.std.specs.Int.{to_be_bytes, w16}
-use Rattle.std.proofs.lemmas.Grind.{flat_map-append}
-use Rattle.pgw_wire.specs.Cell.{Cell, frame}
+use Rattle.pgw_wire.specs.Cell.{Cell, frame, size_of}
 use Rattle.pgw_copy.specs.Format.{IsField, AreFields}
 use Rattle.pgw_copy.proofs.Fields.{fields_append}
 use Rattle.pgw_tree.specs.Tree.{Shape, Value}
 use Rattle.pgw_tree.specs.Spells.{Spells, SpellsRow}
-use Rattle.pgw_tree.specs.Canonical.{Fits, FitsRow, canonical_cell, size_of, canonical_cells, canonical_row}
+use Rattle.pgw_tree.specs.Canonical.{Fits, FitsRow, canonical_cell, canonical_cells, canonical_row}
 use Rattle.pgw_tree.specs.Copying.{IsValuesRow}
 use Rattle.pgw_tree.specs.Plain.{IsPlainRow, ArePlainRows}
-use Rattle.pgw_tree.specs.Runs.{AreRespelled, AreRespelledFields}
-use Rattle.pgw_tree.proofs.Prefixes.{spells_more, fits_more, canonical_more}
+use Rattle.pgw_tree.specs.Runs.{AreRespelled, RespellsFields}
+use Rattle.pgw_tree.proofs.Prefixes.{spells_more, fits_more, fields_more}
 use Rattle.pgw_tree.proofs.RowFields.{spells-append}
-use Rattle.pgw_tree.proofs.Pieces.{canonical_is}
+use Rattle.pgw_tree.proofs.Pieces.{sized, canonical_spells}
 use Rattle.pgw_tree.proofs.Copies.{rows_more}
 use Rattle.pgw_tree.proofs.PlainRows.{cells_many, rows_one_more, plain_rows_each}
 
-pub respelled_none : (most : ℕ) → AreRespelledFields most [] [] []
-respelled_none most = record { cells = []; values = []; each = refl; many = refl; spelled = tt; fit = tt; is = refl }
+pub respelled_none : (most : ℕ) (bytes old : List ℕ) → RespellsFields most [] bytes bytes old old
+respelled_none most bytes old = record { fields = []; cells = []; values = []; each = refl; many = refl; first = record { spelled = tt; fit = tt }; is = refl; appended = sym (append-nil old) }
 
 -- one column more
-pub respelled_more : (most : ℕ) (ts : List Shape) (fields canonical : List ℕ) (t : Shape) (cell : Cell) (field : List ℕ) (v : Value) → AreRespelledFields most ts fields canonical → IsField cell field → Spells t cell v → Fits most t v → AreRespelledFields most (ts ++ (t ∷ [])) (fields ++ field) (canonical ++ frame (canonical_cell t v))
-respelled_more most ts fields canonical t cell field v r is spells fits =
+pub respelled_more : (most : ℕ) (ts : List Shape) (bytes rest old new : List ℕ) (t : Shape) (cell : Cell) (field behind now : List ℕ) (v : Value) → RespellsFields most ts bytes rest old new → IsField cell field → rest ≡ field ++ behind → Spells t cell v → Fits most t v → now ≡ new ++ frame (canonical_cell t v) → RespellsFields most (ts ++ (t ∷ [])) bytes behind old now
+respelled_more most ts bytes rest old new t cell field behind now v r is rest_is spells fits now_is =
     let one = canonical_cell t v in
     record {
+      fields = r.fields ++ field;
       cells = r.cells ++ (cell ∷ []);
       values = r.values ++ (v ∷ []);
-      each = fields_append r.cells cell fields field r.each is;
+      each = fields_append r.cells cell r.fields field r.each is;
       many = omega (arith, r.many, length-append r.cells (cell ∷ []), length-append ts (t ∷ []));
-      spelled = spells_more ts r.cells r.values t cell v r.many r.spelled spells;
-      fit = fits_more most ts r.cells r.values t v r.spelled r.fit fits;
-      is = ap (λ l. l ++ frame one) r.is ∙ ap (λ l. flat_map frame (canonical_cells ts r.values) ++ l) (sym (append-nil (frame one)))
-          ∙ sym (flat_map-append frame (canonical_cells ts r.values) (one ∷ [])) ∙ ap (flat_map frame) (sym (canonical_more ts r.cells r.values t v r.spelled));
+      first = record {
+        spelled = spells_more ts r.cells r.values t cell v r.many r.first.spelled spells;
+        fit = fits_more most ts r.cells r.values t v r.first.spelled r.first.fit fits;
+      };
+      is = r.is ∙ ap (λ l. r.fields ++ l) rest_is ∙ sym (append_assoc r.fields field behind);
+      appended = fields_more old new now ts r.cells r.values t v r.first.spelled r.appended now_is;
     }
 
 -- the fields of two parts of a row
@@ -43,26 +45,22 @@ fields_both (c ∷ cs) others x y each more =
     (each.0, each.1 ++ y, each.2, fields_both cs others each.1 y each.3 more, ap (λ l. l ++ y) each.4 ∙ append_assoc each.0 each.1 y)
 
 -- a row whose first fields are those of the columns
-pub respelled_row : (most : ℕ) (ts : List Shape) (n : ℕ) (fields canonical more : List ℕ) (others : List Cell) (r : AreRespelledFields most ts fields canonical) → AreFields others more → length ts + length others ≡ n → n < 2 ^ 15 → IsValuesRow most ts (to_be_bytes w16 n ++ fields ++ more) r.values
-respelled_row most ts n fields canonical more others r each many few =
+pub respelled_row : (most : ℕ) (ts : List Shape) (n : ℕ) (bytes rest old new more : List ℕ) (others : List Cell) (r : RespellsFields most ts bytes rest old new) → AreFields others more → length ts + length others ≡ n → n < 2 ^ 15 → IsValuesRow most ts (to_be_bytes w16 n ++ r.fields ++ more) r.values
+respelled_row most ts n bytes rest old new more others r each many few =
     let as_many : length (r.cells ++ others) ≡ n = omega (arith, length-append r.cells others, r.many, many) in
     record {
       cells = r.cells ++ others;
       is = record {
-        fields = fields ++ more;
+        fields = r.fields ++ more;
         few = omega (arith, as_many, few);
-        each = fields_both r.cells others fields more r.each each;
-        is = ap (λ k. to_be_bytes w16 k ++ fields ++ more) (sym as_many);
+        each = fields_both r.cells others r.fields more r.each each;
+        is = ap (λ k. to_be_bytes w16 k ++ r.fields ++ more) (sym as_many);
       };
-      spelled = spells-append ts r.cells others r.values r.spelled;
-      fit = r.fit;
+      spelled = spells-append ts r.cells others r.values r.first.spelled;
+      fit = r.first.fit;
     }
 
--- A cell of a value's canonical form spells the value, and has a field where it fits.
-canonical_spells : (t : Shape) (cell : Cell) (v : Value) → Spells t cell v → Spells t (canonical_cell t v) v
-canonical_spells t None v s = subst (λ (w : Value). Spells t (canonical_cell t w) w) (sym s.1) (s.0, refl)
-canonical_spells t (Some p) v s = subst (λ (c : Cell). Spells t c v) (sym (canonical_is t p v s)) s
-
+-- A cell has a field where it is short enough.
 field_of : (cell : Cell) (most : ℕ) → most < 2 ^ 31 → size_of cell ≤ most → IsField cell (frame cell)
 field_of None most max fits = (4294967295, lit< tt, lit< tt, refl)
 field_of (Some p) most max fits = (omega (arith, max, fits), refl)
@@ -80,7 +78,7 @@ canonical_fields most [] cells (v ∷ vs) max s fit = absurd s
 canonical_fields most (t ∷ ts) [] vs max s fit = absurd s
 canonical_fields most (t ∷ ts) (c ∷ cs) [] max s fit = absurd s
 canonical_fields most (t ∷ ts) (c ∷ cs) (v ∷ vs) max s fit =
-    (frame (canonical_cell t v), flat_map frame (canonical_cells ts vs), field_of (canonical_cell t v) most max fit.0, canonical_fields most ts cs vs max s.1 fit.1, refl)
+    (frame (canonical_cell t v), flat_map frame (canonical_cells ts vs), field_of (canonical_cell t v) most max (subst (λ (n : ℕ). n ≤ most) (sized t c v s.0) fit.0), canonical_fields most ts cs vs max s.1 fit.1, refl)
 
 -- The canonical row of values that a row spells, and that fit, is a row of these values.
 pub canonical_is_plain : (most : ℕ) (ts : List Shape) (row : List ℕ) (vs : List Value) → most < 2 ^ 31 → length ts < 2 ^ 15 → IsValuesRow most ts row vs → IsPlainRow most ts (canonical_row ts vs) vs

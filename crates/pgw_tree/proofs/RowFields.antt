@@ -1,6 +1,6 @@
 -- All fields of a row: those of its columns, and those behind them.
 use Rattle.std.proofs.Common.{◌≡◌, ℕ, ◌≤◌, List, [], ◌∷◌, ◌++◌, length, sym, ap, ◌∙◌, arith, append_assoc}
-use Rattle.pgw_copy.proofs.Lists.{same_rest}
+use Rattle.pgw_wire.proofs.Lists.{same_rest}
 use Rattle.pgw_wire.specs.Cell.{Cell}
 use Rattle.pgw_tree.specs.Tree.{Shape, Value}
 use Rattle.pgw_tree.specs.Spells.{SpellsRow}

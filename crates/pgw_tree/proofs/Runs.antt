@@ -1,31 +1,30 @@
 -- Rows that were copied from bytes that a source shows, behind those that were copied before.
-use Rattle.std.proofs.Common.{◌≡◌, ℕ, ◌+◌, ◌-◌, ◌<◌, ◌≤◌, List, [], ◌∷◌, ◌++◌, length, take, drop, Bool, Option, Result, Err, inl, inr, ◌⊎◌, refl, sym, ap, ◌∙◌, arith, subst, append_assoc, append-nil, length-append}
+use Rattle.std.proofs.Common.{◌≡◌, ℕ, length-drop, ◌+◌, ◌-◌, ◌<◌, ◌≤◌, List, [], ◌∷◌, ◌++◌, length, take, drop, Result, Err, inl, inr, refl, sym, ap, ◌∙◌, arith, subst, append_assoc, append-nil, length-append}
 use Rattle.std.specs.Int.{to_be_bytes, w16}
 use Rattle.std.specs.List.{flat_map, AllByRecursion}
 use Rattle.std.proofs.Math.Seq.{take-add, take-append-add}
 use Rattle.std.proofs.lemmas.List.{take-append-drop, take-append-le}
 use Rattle.std.proofs.lemmas.Grind.{flat_map-append}
-use Rattle.pgw_wire.specs.Outside.{Took, Wrote}
-use Rattle.pgw_wire.proofs.Taking.{took_then}
+use Rattle.pgw_wire.specs.Outside.{SourceState, SinkState, Took, Wrote, WroteFront}
+use Rattle.pgw_wire.proofs.Taking.{takes_later}
 use Rattle.pgw_wire.proofs.Adding.{wrote_then}
 use Rattle.pgw_copy.specs.Reader.{IsWholeRow}
-use Rattle.pgw_copy.specs.Writer.{WroteFront}
 use Rattle.pgw_tree.specs.Spells.{SpellsRow}
 use Rattle.pgw_tree.specs.Canonical.{FitsRow, canonical_row, canonical_front}
 use Rattle.pgw_tree.specs.Stream.{AreRows, IsFront, IsWithin}
 use Rattle.pgw_tree.specs.Limits.{Limits}
-use Rattle.pgw_tree.specs.Copying.{IsValuesRow, IsCopying}
-use Rattle.pgw_tree.specs.Causes.{fault_says, in_row, row_cause}
+use Rattle.pgw_tree.specs.Copying.{IsValuesRow, IsCopying, Copies}
+use Rattle.pgw_tree.specs.Causes.{fault_says, in_row, RowCause, read_fault}
 use Rattle.pgw_tree.specs.declared.fault.CopyFault.{CopyFault}
-use Rattle.pgw_tree.specs.declared.fault.CopyFault.TheVariants.{ReadFault, WriteFault}
+use Rattle.pgw_tree.specs.declared.fault.CopyFault.TheVariants.{WriteFault}
 use Rattle.pgw_wire.specs.Cell.{Cell}
 use Rattle.pgw_copy.specs.Format.{IsRow, canonical_header}
-use Rattle.pgw_copy.proofs.Lists.{same_front, same_rest}
-use Rattle.pgw_copy.proofs.Numbers.{same_number_2}
+use Rattle.pgw_wire.proofs.Lists.{same_front, same_rest}
+use Rattle.pgw_wire.proofs.Numbers.{same_number_2}
 use Rattle.pgw_tree.specs.Tree.{Shape, Value}
 use Rattle.pgw_tree.specs.Plain.{IsPlainRow, ArePlainRows}
-use Rattle.pgw_tree.specs.Runs.{AreRespelled, EndsInRow, IsRun, IsBrokenRun, next_row_fault}
-use Rattle.pgw_tree.proofs.Copies.{front_more, within_more, rows_more}
+use Rattle.pgw_tree.specs.Runs.{AreRespelled, EndsInRow, IsRun, IsBrokenRun, rows_fault, shown_fault}
+use Rattle.pgw_tree.proofs.Copies.{front_more, within_more, rows_more, canonical_more}
 use Rattle.pgw_tree.proofs.RowFields.{fields_once}
 use Rattle.pgw_tree.proofs.PlainRows.{rows_one_more, plain_rows_fit, plain_rows_are}
 
@@ -104,29 +103,52 @@ pub record IsCutAt (rest behind canonical canonical_rest row row_rest : List ℕ
   pub is_row : IsWholeRow row
   pub row_is : behind ≡ row ++ row_rest
 
-pub one_before : (most : ℕ) (columns : List Shape) (rows : List (List Value)) (canonical rest front behind cut cut_rest row row_rest : List ℕ) → AreSplit most columns rows canonical rest front behind → 0 < length rest → IsCutAt rest behind cut cut_rest row row_rest → AreSplit most columns rows (canonical ++ cut) cut_rest (front ++ row) row_rest
-one_before most columns rows canonical rest front behind cut cut_rest row row_rest s some at =
-    let n = next_of most columns s.after rest behind s.plain_after s.each_after some in
+-- The first of the rows that are left is the one that was walked over.
+pub record IsWalked (most : ℕ) (columns : List Shape) (after : List (List Value)) (cut cut_rest row row_rest : List ℕ) : Type 0 where
+  pub values : List Value
+  pub others : List (List Value)
+  pub cells : List Cell
+  pub after_is : after ≡ values ∷ others
+  pub plain : IsPlainRow most columns cut values
+  pub plain_after : ArePlainRows most columns cut_rest others
+  pub is_row : IsRow cells row
+  pub spelled : SpellsRow columns cells values
+  pub each_after : AreRows columns row_rest others
+
+walked : (most : ℕ) (columns : List Shape) (after : List (List Value)) (rest behind cut cut_rest row row_rest : List ℕ) → IsNext most columns after rest behind → IsCutAt rest behind cut cut_rest row row_rest → IsWalked most columns after cut cut_rest row row_rest
+walked most columns after rest behind cut cut_rest row row_rest n at =
     let same = cut_at n.plain.row.cells at.canonical_row.0 n.canonical n.canonical_rest cut cut_rest rest n.plain.row.is at.canonical_row.1 n.canonical_is at.canonical_is in
     let same_row = cut_at n.cells at.is_row.0 n.row n.row_rest row row_rest behind n.is_row at.is_row.1 n.row_is at.row_is in
+    record {
+      values = n.values;
+      others = n.others;
+      cells = n.cells;
+      after_is = n.after_is;
+      plain = subst (λ (l : List ℕ). IsPlainRow most columns l n.values) same.0 n.plain;
+      plain_after = subst (λ (l : List ℕ). ArePlainRows most columns l n.others) same.1 n.plain_after;
+      is_row = subst (λ (l : List ℕ). IsRow n.cells l) same_row.0 n.is_row;
+      spelled = n.spelled;
+      each_after = subst (λ (l : List ℕ). AreRows columns l n.others) same_row.1 n.each_after;
+    }
+
+pub one_before : (most : ℕ) (columns : List Shape) (rows : List (List Value)) (canonical rest front behind cut cut_rest row row_rest : List ℕ) → AreSplit most columns rows canonical rest front behind → 0 < length rest → IsCutAt rest behind cut cut_rest row row_rest → AreSplit most columns rows (canonical ++ cut) cut_rest (front ++ row) row_rest
+one_before most columns rows canonical rest front behind cut cut_rest row row_rest s some at =
+    let n = walked most columns s.after rest behind cut cut_rest row row_rest (next_of most columns s.after rest behind s.plain_after s.each_after some) at in
     record {
       before = s.before ++ (n.values ∷ []);
       after = n.others;
       rows_are = s.rows_are ∙ ap (λ l. s.before ++ l) n.after_is ∙ sym (append_assoc s.before (n.values ∷ []) n.others);
-      plain = rows_one_more most columns canonical cut s.before n.values s.plain (subst (λ (l : List ℕ). IsPlainRow most columns l n.values) same.0 n.plain);
-      plain_after = subst (λ (l : List ℕ). ArePlainRows most columns l n.others) same.1 n.plain_after;
-      each = rows_more columns front row s.before n.cells n.values s.each (subst (λ (l : List ℕ). IsRow n.cells l) same_row.0 n.is_row) n.spelled;
-      each_after = subst (λ (l : List ℕ). AreRows columns l n.others) same_row.1 n.each_after;
+      plain = rows_one_more most columns canonical cut s.before n.values s.plain n.plain;
+      plain_after = n.plain_after;
+      each = rows_more columns front row s.before n.cells n.values s.each n.is_row n.spelled;
+      each_after = n.each_after;
     }
 
 pub ends_in : (most : ℕ) (columns : List Shape) (rows : List (List Value)) (canonical rest front behind cut cut_rest row row_rest bytes : List ℕ) (sent : ℕ) → AreSplit most columns rows canonical rest front behind → 0 < length rest → IsCutAt rest behind cut cut_rest row row_rest
     → length canonical ≤ sent → sent < length canonical + length cut → bytes ≡ front ++ row → EndsInRow most columns rows sent bytes
 ends_in most columns rows canonical rest front behind cut cut_rest row row_rest bytes sent s some at begun ends is =
-    let n = next_of most columns s.after rest behind s.plain_after s.each_after some in
-    let same = cut_at n.plain.row.cells at.canonical_row.0 n.canonical n.canonical_rest cut cut_rest rest n.plain.row.is at.canonical_row.1 n.canonical_is at.canonical_is in
-    let same_row = cut_at n.cells at.is_row.0 n.row n.row_rest row row_rest behind n.is_row at.is_row.1 n.row_is at.row_is in
+    let n = walked most columns s.after rest behind cut cut_rest row row_rest (next_of most columns s.after rest behind s.plain_after s.each_after some) at in
     let prior = plain_rows_are most columns canonical s.before s.plain in
-    let last : cut ≡ canonical_row columns n.values = sym same.0 ∙ n.plain.is in
     record {
       before = s.before;
       last = n.values;
@@ -135,10 +157,10 @@ ends_in most columns rows canonical rest front behind cut cut_rest row row_rest 
       row = row;
       rows_are = s.rows_are ∙ ap (λ l. s.before ++ l) n.after_is;
       each = s.each;
-      is_last = record { cells = n.cells; is = subst (λ (l : List ℕ). IsRow n.cells l) same_row.0 n.is_row; spelled = n.spelled; fit = n.plain.row.fit };
+      is_last = record { cells = n.cells; is = n.is_row; spelled = n.spelled; fit = n.plain.row.fit };
       is = is;
       begun = omega (arith, begun, ap length prior);
-      ends = omega (arith, ends, ap length prior, ap length last);
+      ends = omega (arith, ends, ap length prior, ap length n.plain.is);
     }
 
 -- Where rows are left, one stands in front of them, and so does one in front of their canonical form.
@@ -198,14 +220,14 @@ run_whole limits ts n many Written canonical bytes few all written = record {
 }
 
 -- Rows were copied, and rows behind them.
-pub run_more : (limits : Limits) (ts : List Shape) (n m k : ℕ) {a b c : Option (List ℕ)} {s t u : Option Bool} (x y : List ℕ) → IsRun limits ts n m (Wrote a b s t) x → IsRun limits ts m k (Wrote b c t u) y → IsRun limits ts n k (Wrote a c s u) (x ++ y)
-run_more limits ts n m k {a = a} {c = c} {s = s} {u = u} x y r q = record {
+pub run_more : (limits : Limits) (ts : List Shape) (n m k : ℕ) {O : Type 0} {a b c : SinkState O} (x y : List ℕ) → IsRun limits ts n m (Wrote a b) x → IsRun limits ts m k (Wrote b c) y → IsRun limits ts n k (Wrote a c) (x ++ y)
+run_more limits ts n m k {a = a} {c = c} x y r q = record {
   rows = r.rows ++ q.rows;
   each = rows_append ts x y r.rows q.rows r.each q.each;
   fit = all_append (FitsRow limits.field_max ts) r.rows q.rows r.fit q.fit;
   counted = omega (arith, r.counted, q.counted, length-append r.rows q.rows);
   few = q.few;
-  written = subst (λ (l : List ℕ). Wrote a c s u l) (sym (flat_map-append (canonical_row ts) r.rows q.rows)) (wrote_then r.written q.written);
+  written = subst (λ (l : List ℕ). Wrote a c l) (sym (flat_map-append (canonical_row ts) r.rows q.rows)) (wrote_then r.written q.written);
 }
 
 -- One row was copied.
@@ -220,7 +242,7 @@ run_one limits ts n Written row vs more r written = record {
 }
 
 -- The sink failed in one row.
-pub broken_one : (limits : Limits) (ts : List Shape) (n : ℕ) {a b : Option (List ℕ)} {s t : Option Bool} (row : List ℕ) (vs : List Value) → n < limits.rows_max → IsValuesRow limits.field_max ts row vs → WroteFront a b s t (canonical_row ts vs) → IsBrokenRun limits ts n (Wrote a b s t) row
+pub broken_one : (limits : Limits) (ts : List Shape) (n : ℕ) {O : Type 0} {a b : SinkState O} (row : List ℕ) (vs : List Value) → n < limits.rows_max → IsValuesRow limits.field_max ts row vs → WroteFront (Wrote a b) (canonical_row ts vs) → IsBrokenRun limits ts n (Wrote a b) row
 broken_one limits ts n row vs more r w = record {
   rows = [];
   last = vs;
@@ -231,7 +253,7 @@ broken_one limits ts n row vs more r w = record {
   is_last = r;
   is = refl;
   few = omega (arith, more);
-  part = record { front = w.front; rest = w.rest; is = w.splits; written = w.wrote };
+  part = record { front = w.front; rest = w.rest; is = w.is; missing = w.missing; written = w.written };
 }
 
 -- so many bytes of some rows, of one row more, and of what is behind
@@ -250,8 +272,8 @@ fit_before P [] ys h = tt
 fit_before P (x ∷ xs) ys h = (h.0, fit_before P xs ys h.1)
 
 -- The sink failed in one of the rows, whose canonical form was written up to there.
-pub broken_part : (limits : Limits) (ts : List Shape) (n many sent : ℕ) {a b : Option (List ℕ)} {s t : Option Bool} (canonical run bytes : List ℕ) → n + many ≤ limits.rows_max → (all : AreRespelled limits.field_max ts many canonical run) → EndsInRow limits.field_max ts all.rows sent bytes → Wrote a b s t (take sent canonical) → IsBrokenRun limits ts n (Wrote a b s t) bytes
-broken_part limits ts n many sent {a = a} {b = b} {s = s} {t = t} canonical run bytes few all ends w =
+pub broken_part : (limits : Limits) (ts : List Shape) (n many sent : ℕ) {O : Type 0} {a b : SinkState O} (canonical run bytes : List ℕ) → n + many ≤ limits.rows_max → (all : AreRespelled limits.field_max ts many canonical run) → EndsInRow limits.field_max ts all.rows sent bytes → Wrote a b (take sent canonical) → IsBrokenRun limits ts n (Wrote a b) bytes
+broken_part limits ts n many sent {a = a} {b = b} canonical run bytes few all ends w =
     let most = limits.field_max in
     let prior = flat_map (canonical_row ts) ends.before in
     let last = canonical_row ts ends.last in
@@ -268,12 +290,12 @@ broken_part limits ts n many sent {a = a} {b = b} {s = s} {t = t} canonical run 
       is_last = ends.is_last;
       is = ends.is;
       few = omega (arith, few, all.as_many, ap length ends.rows_are, length-append ends.before (ends.last ∷ ends.after));
-      part = record { front = take part last; rest = drop part last; is = sym (take-append-drop part last); written = subst (λ (l : List ℕ). Wrote a b s t l) sent_is w };
+      part = record { front = take part last; rest = drop part last; is = sym (take-append-drop part last); missing = omega (arith, ends.begun, ends.ends, length-drop part last); written = subst (λ (l : List ℕ). Wrote a b l) sent_is w };
     }
 
 -- Rows were copied, and behind them the sink failed.
-pub broken_more : (limits : Limits) (ts : List Shape) (n m : ℕ) {a b c : Option (List ℕ)} {s t u : Option Bool} (x y : List ℕ) → IsRun limits ts n m (Wrote a b s t) x → IsBrokenRun limits ts m (Wrote b c t u) y → IsBrokenRun limits ts n (Wrote a c s u) (x ++ y)
-broken_more limits ts n m {a = a} {c = c} {s = s} {u = u} x y r q =
+pub broken_more : (limits : Limits) (ts : List Shape) (n m : ℕ) {O : Type 0} {a b c : SinkState O} (x y : List ℕ) → IsRun limits ts n m (Wrote a b) x → IsBrokenRun limits ts m (Wrote b c) y → IsBrokenRun limits ts n (Wrote a c) (x ++ y)
+broken_more limits ts n m {a = a} {c = c} x y r q =
     let prior = flat_map (canonical_row ts) r.rows in
     let more = flat_map (canonical_row ts) q.rows in
     record {
@@ -290,55 +312,43 @@ broken_more limits ts n m {a = a} {c = c} {s = s} {u = u} x y r q =
         front = q.part.front;
         rest = q.part.rest;
         is = q.part.is;
-        written = subst (λ (l : List ℕ). Wrote a c s u l) (sym (append_assoc prior more q.part.front) ∙ ap (λ l. l ++ q.part.front) (sym (flat_map-append (canonical_row ts) r.rows q.rows))) (wrote_then r.written q.part.written);
+        missing = q.part.missing;
+        written = subst (λ (l : List ℕ). Wrote a c l) (sym (append_assoc prior more q.part.front) ∙ ap (λ l. l ++ q.part.front) (sym (flat_map-append (canonical_row ts) r.rows q.rows))) (wrote_then r.written q.part.written);
       };
     }
 
 -- What was copied behind rows that were copied before, as a part of all bytes.
-pub run_behind : (limits : Limits) (ts : List Shape) (n m k : ℕ) {a b c : Option (List ℕ)} {s t u : Option Bool} (bytes rest : List ℕ) (len more : ℕ) → rest ≡ drop len bytes → IsRun limits ts n m (Wrote a b s t) (take len bytes) → IsRun limits ts m k (Wrote b c t u) (take more rest) → IsRun limits ts n k (Wrote a c s u) (take (len + more) bytes)
-run_behind limits ts n m k {a = a} {c = c} {s = s} {u = u} bytes rest len more is r q =
-    subst (λ (l : List ℕ). IsRun limits ts n k (Wrote a c s u) l) (ap (λ l. take len bytes ++ take more l) is ∙ sym (take-add len more bytes)) (run_more limits ts n m k (take len bytes) (take more rest) r q)
+pub run_behind : (limits : Limits) (ts : List Shape) (n m k : ℕ) {O : Type 0} {a b c : SinkState O} (bytes rest : List ℕ) (len more : ℕ) → rest ≡ drop len bytes → IsRun limits ts n m (Wrote a b) (take len bytes) → IsRun limits ts m k (Wrote b c) (take more rest) → IsRun limits ts n k (Wrote a c) (take (len + more) bytes)
+run_behind limits ts n m k {a = a} {c = c} bytes rest len more is r q =
+    subst (λ (l : List ℕ). IsRun limits ts n k (Wrote a c) l) (ap (λ l. take len bytes ++ take more l) is ∙ sym (take-add len more bytes)) (run_more limits ts n m k (take len bytes) (take more rest) r q)
 
-pub broken_behind : (limits : Limits) (ts : List Shape) (n m : ℕ) {a b c : Option (List ℕ)} {s t u : Option Bool} (bytes rest : List ℕ) (len more : ℕ) → rest ≡ drop len bytes → IsRun limits ts n m (Wrote a b s t) (take len bytes) → IsBrokenRun limits ts m (Wrote b c t u) (take more rest) → IsBrokenRun limits ts n (Wrote a c s u) (take (len + more) bytes)
-broken_behind limits ts n m {a = a} {c = c} {s = s} {u = u} bytes rest len more is r q =
-    subst (λ (l : List ℕ). IsBrokenRun limits ts n (Wrote a c s u) l) (ap (λ l. take len bytes ++ take more l) is ∙ sym (take-add len more bytes)) (broken_more limits ts n m (take len bytes) (take more rest) r q)
+pub broken_behind : (limits : Limits) (ts : List Shape) (n m : ℕ) {O : Type 0} {a b c : SinkState O} (bytes rest : List ℕ) (len more : ℕ) → rest ≡ drop len bytes → IsRun limits ts n m (Wrote a b) (take len bytes) → IsBrokenRun limits ts m (Wrote b c) (take more rest) → IsBrokenRun limits ts n (Wrote a c) (take (len + more) bytes)
+broken_behind limits ts n m {a = a} {c = c} bytes rest len more is r q =
+    subst (λ (l : List ℕ). IsBrokenRun limits ts n (Wrote a c) l) (ap (λ l. take len bytes ++ take more l) is ∙ sym (take-add len more bytes)) (broken_more limits ts n m (take len bytes) (take more rest) r q)
 
 -- Rows that were copied behind those that a stream begins with.
-pub run_copied : (limits : Limits) (ts : List Shape) (n m : ℕ) {a b c : Option (List ℕ)} {s t u : Option Bool} (x y : List ℕ) → IsCopying limits ts n (Wrote a b s t) x → IsRun limits ts n m (Wrote b c t u) y → IsCopying limits ts m (Wrote a c s u) (x ++ y)
-run_copied limits ts n m {a = a} {c = c} {s = s} {u = u} x y k r = record {
+pub run_copied : (limits : Limits) (ts : List Shape) (n m : ℕ) {O : Type 0} {a b c : SinkState O} (x y : List ℕ) → IsCopying limits ts n (Wrote a b) x → IsRun limits ts n m (Wrote b c) y → IsCopying limits ts m (Wrote a c) (x ++ y)
+run_copied limits ts n m {a = a} {c = c} x y k r = record {
   rows = k.rows ++ r.rows;
   begins = front_append ts x y k.rows r.rows k.begins r.each;
   within = within_append limits ts k.rows r.rows k.within r.fit (omega (arith, k.many, r.counted, r.few));
   many = omega (arith, k.many, r.counted, length-append k.rows r.rows);
-  written = subst (λ (l : List ℕ). Wrote a c s u l) (sym (canonical_append ts k.rows r.rows)) (wrote_then k.written r.written);
+  written = subst (λ (l : List ℕ). Wrote a c l) (sym (canonical_append ts k.rows r.rows)) (wrote_then k.written r.written);
 }
 
 -- At the end nothing was written behind the rows so far.
-pub end_copied : (limits : Limits) (ts : List Shape) (n : ℕ) {a b c : Option (List ℕ)} {s t u : Option Bool} (x : List ℕ) → IsCopying limits ts n (Wrote a b s t) x → Wrote b c t u [] → IsCopying limits ts n (Wrote a c s u) x
-end_copied limits ts n {a = a} {c = c} {s = s} {u = u} x k none = record {
+pub end_copied : (limits : Limits) (ts : List Shape) (n : ℕ) {O : Type 0} {a b c : SinkState O} (x : List ℕ) → IsCopying limits ts n (Wrote a b) x → Wrote b c [] → IsCopying limits ts n (Wrote a c) x
+end_copied limits ts n {a = a} {c = c} x k none = record {
   rows = k.rows;
   begins = k.begins;
   within = k.within;
   many = k.many;
-  written = subst (λ (l : List ℕ). Wrote a c s u l) (append-nil (canonical_front ts k.rows)) (wrote_then k.written none);
+  written = subst (λ (l : List ℕ). Wrote a c l) (append-nil (canonical_front ts k.rows)) (wrote_then k.written none);
 }
 
--- The source failed where nothing was taken behind the rows so far.
-pub says_read_fault : (limits : Limits) (ts : List Shape) (n : ℕ) {a b c : Option (List ℕ)} {s t u : Option Bool} (x y : List ℕ) → IsCopying limits ts n (Wrote a b s t) x → Wrote b c t u [] → y ≡ [] → fault_says limits ts ReadFault (Wrote a c s u) (x ++ y)
-says_read_fault limits ts n {a = a} {c = c} {s = s} {u = u} x y k none empty = inr (inl (record {
-  front = x;
-  behind = [];
-  rows = k.rows;
-  begins = k.begins;
-  within = k.within;
-  is = ap (λ l. x ++ l) empty;
-  cause = (inl (omega arith), λ two. omega (arith, two));
-  written = subst (λ (l : List ℕ). Wrote a c s u l) (append-nil (canonical_front ts k.rows)) (wrote_then k.written none);
-}))
-
 -- The sink failed in a row behind the rows so far.
-pub says_write_fault : (limits : Limits) (ts : List Shape) (n : ℕ) {a b c : Option (List ℕ)} {s t u : Option Bool} (x y : List ℕ) → IsCopying limits ts n (Wrote a b s t) x → IsBrokenRun limits ts n (Wrote b c t u) y → fault_says limits ts WriteFault (Wrote a c s u) (x ++ y)
-says_write_fault limits ts n {a = a} {c = c} {s = s} {u = u} x y k r =
+pub says_write_fault : (limits : Limits) (ts : List Shape) (n : ℕ) {O : Type 0} {a b c : SinkState O} (x y : List ℕ) → IsCopying limits ts n (Wrote a b) x → IsBrokenRun limits ts n (Wrote b c) y → fault_says limits ts (canonical_front ts) WriteFault (Wrote a c) (x ++ y)
+says_write_fault limits ts n {a = a} {c = c} x y k r =
     let rows = k.rows ++ r.rows in
     let more = flat_map (canonical_row ts) r.rows in
     let front = front_more limits.field_max ts (x ++ r.front) r.row rows r.last (front_append ts x r.front k.rows r.rows k.begins r.each) r.is_last in
@@ -346,38 +356,44 @@ says_write_fault limits ts n {a = a} {c = c} {s = s} {u = u} x y k r =
     let sent = sym (append_assoc (canonical_front ts k.rows) more r.part.front) ∙ ap (λ l. l ++ r.part.front) (sym (canonical_append ts k.rows r.rows)) in
     inr (inr (
       refl,
-      in_row rows r.last (subst (λ (l : List ℕ). IsFront ts l (rows ++ (r.last ∷ []))) whole front)
+      in_row rows r.last (canonical_row ts r.last) (subst (λ (l : List ℕ). IsFront ts l (rows ++ (r.last ∷ []))) whole front)
           (within_more limits ts rows r.last (within_append limits ts k.rows r.rows k.within r.fit (omega (arith, k.many, r.few))) (omega (arith, k.many, r.few, length-append k.rows r.rows)) r.is_last.fit)
+          (canonical_more ts rows r.last)
           (record {
             front = r.part.front;
             rest = r.part.rest;
             is = r.part.is;
-            written = subst (λ (l : List ℕ). Wrote a c s u l) sent (wrote_then k.written r.part.written);
+            missing = r.part.missing;
+            written = subst (λ (l : List ℕ). Wrote a c l) sent (wrote_then k.written r.part.written);
           }),
     ))
 
+-- A source that failed where nothing was taken behind rows cut a row short.
+is_rows_fault : (limits : Limits) (ts : List Shape) (n : ℕ) (Written : List ℕ → Type 0) (fault : CopyFault) (bytes : List ℕ) → shown_fault limits ts n Written fault bytes → rows_fault limits ts n Written fault bytes
+is_rows_fault limits ts n Written fault bytes (inl (is, none, written)) = inl (read_fault is (inl (omega (arith, ap length none)), λ two. omega (arith, two, ap length none)), written)
+is_rows_fault limits ts n Written fault bytes (inr broken) = inr broken
+
 -- what a fault of a call that takes a row or the end says of all bytes that were taken
-pub next_row_says : (limits : Limits) (ts : List Shape) (n : ℕ) {a b c : Option (List ℕ)} {s t u : Option Bool} (f : CopyFault) (x y : List ℕ) → IsCopying limits ts n (Wrote a b s t) x → next_row_fault limits ts n (Wrote b c t u) f y → fault_says limits ts f (Wrote a c s u) (x ++ y)
-next_row_says limits ts n {a = a} {c = c} {s = s} {u = u} f x y k (inl stopped) = inr (inl (record {
+pub rows_says : (limits : Limits) (ts : List Shape) (n : ℕ) {O : Type 0} {a b c : SinkState O} (f : CopyFault) (x y : List ℕ) → IsCopying limits ts n (Wrote a b) x → rows_fault limits ts n (Wrote b c) f y → fault_says limits ts (canonical_front ts) f (Wrote a c) (x ++ y)
+rows_says limits ts n {a = a} {c = c} f x y k (inl stopped) = inr (inl (record {
   front = x;
   behind = y;
   rows = k.rows;
   begins = k.begins;
   within = k.within;
   is = refl;
-  cause = subst (λ (m : ℕ). row_cause limits ts m f y) (sym k.many) stopped.0;
-  written = subst (λ (l : List ℕ). Wrote a c s u l) (append-nil (canonical_front ts k.rows)) (wrote_then k.written stopped.1);
+  cause = subst (λ (m : ℕ). RowCause limits ts m f y) (sym k.many) stopped.0;
+  written = subst (λ (l : List ℕ). Wrote a c l) (append-nil (canonical_front ts k.rows)) (wrote_then k.written stopped.1);
 }))
-next_row_says limits ts n {a = a} {c = c} {s = s} {u = u} f x y k (inr (is, broken)) =
-    subst (λ (e : CopyFault). fault_says limits ts e (Wrote a c s u) (x ++ y)) (sym is) (says_write_fault limits ts n x y k broken)
+rows_says limits ts n {a = a} {c = c} f x y k (inr (is, broken)) =
+    subst (λ (e : CopyFault). fault_says limits ts (canonical_front ts) e (Wrote a c) (x ++ y)) (sym is) (says_write_fault limits ts n x y k broken)
 
--- what a fault of copying the rows that a source shows says of all bytes that were taken
-pub shown_says : {l m r : Option (List ℕ)} {SourceFailed SinkFailed : Type 0} {X : Type 0} (limits : Limits) (ts : List Shape) (n : ℕ) {a b c : Option (List ℕ)} {s t u : Option Bool} (result : Result X CopyFault) (f : CopyFault) → result ≡ Err f
-    → Took l m (IsCopying limits ts n (Wrote a b s t)) → (result ≡ Err ReadFault → Took m r (λ taken. taken ≡ []) × Wrote b c t u [] × SourceFailed) → (result ≡ Err WriteFault → Took m r (IsBrokenRun limits ts n (Wrote b c t u)) × SinkFailed)
-    → (f ≡ ReadFault) ⊎ (f ≡ WriteFault) → Took l r (fault_says limits ts f (Wrote a c s u))
-shown_says {l = l} {r = r} limits ts n {a = a} {c = c} {s = s} {u = u} result f is k at_source at_sink (inl read) =
-    let h = at_source (is ∙ ap Err read) in
-    subst (λ (e : CopyFault). Took l r (fault_says limits ts e (Wrote a c s u))) (sym read) (took_then k h.0 (λ x y so_far empty. says_read_fault limits ts n x y so_far h.1 empty))
-shown_says {l = l} {r = r} limits ts n {a = a} {c = c} {s = s} {u = u} result f is k at_source at_sink (inr write) =
-    let h = at_sink (is ∙ ap Err write) in
-    subst (λ (e : CopyFault). Took l r (fault_says limits ts e (Wrote a c s u))) (sym write) (took_then k h.0 (λ x y so_far broken. says_write_fault limits ts n x y so_far broken))
+-- a later call's fault, behind the rows so far
+pub rows_later : {S K X Y : Type 0} {a b c : SourceState S} {before mid now : SinkState K} {r : Result X CopyFault} {e : CopyFault} {P1 : Y → List ℕ → Type 0} {P : X → List ℕ → Type 0} (limits : Limits) (ts : List Shape) (n : ℕ) → r ≡ Err e
+    → Took a b (IsCopying limits ts n (Wrote before mid)) → Copies {X = Y} b c (Err e) P1 (rows_fault limits ts n (Wrote mid now)) → Copies a c r P (λ fault. fault_says limits ts (canonical_front ts) fault (Wrote before now))
+rows_later {P = P} limits ts n is t u = takes_later P _ is t u (λ d x y k h. rows_says limits ts n d x y k h)
+
+-- the same of a call that copies what a source shows
+pub shown_later : {S K X Y : Type 0} {a b c : SourceState S} {before mid now : SinkState K} {r : Result X CopyFault} {e : CopyFault} {P1 : Y → List ℕ → Type 0} {P : X → List ℕ → Type 0} (limits : Limits) (ts : List Shape) (n : ℕ) → r ≡ Err e
+    → Took a b (IsCopying limits ts n (Wrote before mid)) → Copies {X = Y} b c (Err e) P1 (shown_fault limits ts n (Wrote mid now)) → Copies a c r P (λ fault. fault_says limits ts (canonical_front ts) fault (Wrote before now))
+shown_later {mid = mid} {now = now} {P = P} limits ts n is t u = takes_later P _ is t u (λ d x y k h. rows_says limits ts n d x y k (is_rows_fault limits ts n (Wrote mid now) d y h))

@@ -1,18 +1,18 @@
 -- A stream spells one list of rows.
 use Rattle.std.proofs.Common.{◌≡◌, ℕ, List, [], ◌∷◌, ◌++◌, length, None, Some, refl, sym, ap, ◌∙◌, arith, append_assoc, subst, w32, lit<}
-use Rattle.std.specs.Int.{to_be_bytes, cast_unsigned, cast_signed, w16}
-use Rattle.std.proofs.lemmas.Int.{to_z-of_z}
-use Rattle.std.proofs.Math.Facts.{Fits-of_z}
+use Rattle.std.specs.Int.{to_be_bytes, w16}
 use Rattle.pgw_wire.specs.Cell.{Cell}
-use Rattle.pgw_tree.specs.Tree.{Shape, int4, text, nullable, Value, number}
-use Rattle.pgw_tree.specs.Spells.{SpellsInt4, SpellsPiece, Spells, SpellsRow}
+use Rattle.pgw_tree.specs.Tree.{Shape, Value}
+use Rattle.pgw_tree.specs.Spells.{SpellsRow}
 use Rattle.pgw_copy.specs.Format.{IsHeader, IsField, AreFields, IsCount, trailer}
 use Rattle.pgw_tree.specs.Stream.{AreRows, IsStream}
-use Rattle.pgw_copy.proofs.Lists.{same_front, same_rest}
-use Rattle.pgw_copy.proofs.Numbers.{same_number_2, same_number_4, length-count}
+use Rattle.pgw_wire.proofs.Lists.{same_front, same_rest}
+use Rattle.pgw_wire.proofs.Numbers.{same_number_2, same_number_4}
+use Rattle.pgw_copy.proofs.Reading.{length-count}
 use Rattle.pgw_copy.proofs.Headers.{header_splits}
 use Rattle.pgw_copy.proofs.Fields.{Says, length_first, field_once}
 use Rattle.pgw_tree.proofs.RowFields.{fields_once}
+use Rattle.pgw_tree.proofs.Reading.{value_once}
 
 -- A count of 0 or more is not the end.
 pub count_is_not_end : (count : ℕ) (x behind rest : List ℕ) → IsCount (Some count) x → x ++ behind ≡ trailer ++ rest → ⊥
@@ -55,22 +55,6 @@ cells_once (c ∷ cs) (o ∷ os) x behind rest many each x' each' e =
     let first = cell_once c o each'.0 (subst (λ (l : List ℕ). IsField c l) field each.2) each'.2 in
     let behind_same = cells_once cs os each.1 behind rest (omega (arith, many)) each.3 each'.1 each'.3 others in
     ap (λ d. d ∷ cs) first ∙ ap (λ ds. o ∷ ds) behind_same
-
--- A piece spells one value of a type.
-number_once : (piece : List ℕ) (v w : Value) → SpellsInt4 piece v → SpellsInt4 piece w → v ≡ w
-number_once piece v w s r =
-    let same = same_number_4 (cast_unsigned w32 s.n) (cast_unsigned w32 r.n) (omega (arith, Fits-of_z s.fits)) (omega (arith, Fits-of_z r.fits)) (sym s.bytes ∙ r.bytes) in
-    s.is ∙ ap number (sym (to_z-of_z w32 s.n s.fits) ∙ ap (cast_signed w32) same ∙ to_z-of_z w32 r.n r.fits) ∙ sym r.is
-
-piece_once : (t : Shape) (piece : List ℕ) (v w : Value) → SpellsPiece t piece v → SpellsPiece t piece w → v ≡ w
-piece_once int4 piece v w s r = number_once piece v w s r
-piece_once text piece v w s r = s.is ∙ sym r.is
-piece_once (nullable t) piece v w s r = piece_once t piece v w s r
-
--- A cell spells one value of a type.
-pub value_once : (t : Shape) (c : Cell) (v w : Value) → Spells t c v → Spells t c w → v ≡ w
-value_once t None v w s r = s.1 ∙ sym r.1
-value_once t (Some p) v w s r = piece_once t p v w s r
 
 values_once : (ts : List Shape) (cells : List Cell) (vs ws : List Value) → SpellsRow ts cells vs → SpellsRow ts cells ws → vs ≡ ws
 values_once [] cells [] [] s r = refl

@@ -5,8 +5,8 @@ use lib.Utf8.{encode}
 use Rattle.pgw_wire.specs.Cell.{Cell}
 use Rattle.pgw_tree.specs.Tree.{Shape, Value, int4, text, nullable, null, number, string}
 use Rattle.pgw_tree.specs.Spells.{SpellsRow}
-use Rattle.pgw_tree.specs.Canonical.{canonical_cell, canonical_stream}
-use Rattle.pgw_copy.specs.Format.{IsHeader, IsField, IsRow}
+use Rattle.pgw_tree.specs.Canonical.{canonical_cell, canonical_front}
+use Rattle.pgw_copy.specs.Format.{IsHeader, IsField, IsRow, trailer}
 use Rattle.pgw_tree.specs.Stream.{IsFront, IsStream, IsWithin}
 use Rattle.pgw_tree.specs.Limits.{default_limits}
 
@@ -45,13 +45,13 @@ pub plain_is_header : IsHeader plain
 plain_is_header = record { fixed = plain; extension = []; begins = record { flags = 0; low = lit< tt; short = lit< tt; is = refl }; is = refl }
 
 pub spelled_42 : (cells : List Cell) → SpellsRow columns (Some (0 ∷ 0 ∷ 0 ∷ 42 ∷ []) ∷ cells) values
-spelled_42 cells = (record { n = pos 42; fits = record { sfits = lit< tt }; bytes = refl; is = refl }, tt)
+spelled_42 cells = ((pos 42, record { fits = record { sfits = lit< tt }; bytes = refl }, refl), tt)
 
 -- A header and the end are a stream of no rows, and the canonical one.
 pub empty_stream : IsStream columns (plain ++ 255 ∷ 255 ∷ []) []
 empty_stream = record { front = plain; begins = record { header = plain; body = []; begins = plain_is_header; each = refl; is = refl }; is = refl }
 
-pub empty_canonical : canonical_stream columns [] ≡ plain ++ 255 ∷ 255 ∷ []
+pub empty_canonical : canonical_front columns [] ++ trailer ≡ plain ++ 255 ∷ 255 ∷ []
 empty_canonical = refl
 
 -- A header and a row of one field of four bytes are the front of a stream of one value. With the end behind them they are
@@ -65,7 +65,7 @@ front_42 = record { header = plain; body = 0 ∷ 1 ∷ field_42; begins = plain_
 pub row_stream : IsStream columns (plain ++ 0 ∷ 1 ∷ 0 ∷ 0 ∷ 0 ∷ 4 ∷ 0 ∷ 0 ∷ 0 ∷ 42 ∷ 255 ∷ 255 ∷ []) (values ∷ [])
 row_stream = record { front = plain ++ 0 ∷ 1 ∷ field_42; begins = front_42; is = refl }
 
-pub row_canonical : canonical_stream columns (values ∷ []) ≡ plain ++ 0 ∷ 1 ∷ 0 ∷ 0 ∷ 0 ∷ 4 ∷ 0 ∷ 0 ∷ 0 ∷ 42 ∷ 255 ∷ 255 ∷ []
+pub row_canonical : canonical_front columns (values ∷ []) ++ trailer ≡ plain ++ 0 ∷ 1 ∷ 0 ∷ 0 ∷ 0 ∷ 4 ∷ 0 ∷ 0 ∷ 0 ∷ 42 ∷ 255 ∷ 255 ∷ []
 row_canonical = refl
 
 -- Fields behind the last column change nothing, null or not.
@@ -135,7 +135,7 @@ unfolding encode
 letter_e_acute = (233 ∷ [], (refl, refl))
 
 spelled_wide : SpellsRow wide_columns (None ∷ None ∷ Some (195 ∷ 169 ∷ []) ∷ []) wide_values
-spelled_wide = ((refl, refl), ((refl, refl), (record { utf8 = letter_e_acute; is = refl }, tt)))
+spelled_wide = ((refl, refl), ((refl, refl), ((195 ∷ 169 ∷ [], record { utf8 = letter_e_acute; bytes = refl }, refl), tt)))
 
 pub null_stream : IsStream wide_columns (plain ++ 0 ∷ 3 ∷ 128 ∷ 0 ∷ 0 ∷ 0 ∷ 255 ∷ 255 ∷ 255 ∷ 254 ∷ 0 ∷ 0 ∷ 0 ∷ 2 ∷ 195 ∷ 169 ∷ 255 ∷ 255 ∷ []) (wide_values ∷ [])
 null_stream = record { front = plain ++ 0 ∷ 3 ∷ fields; begins = front; is = refl }
@@ -152,5 +152,5 @@ null_stream = record { front = plain ++ 0 ∷ 3 ∷ fields; begins = front; is =
     front : IsFront wide_columns (plain ++ 0 ∷ 3 ∷ fields) (wide_values ∷ [])
     front = record { header = plain; body = 0 ∷ 3 ∷ fields; begins = plain_is_header; each = (_, _, [], row, spelled_wide, refl, refl); is = refl }
 
-pub null_canonical : canonical_stream wide_columns (wide_values ∷ []) ≡ plain ++ 0 ∷ 3 ∷ 255 ∷ 255 ∷ 255 ∷ 255 ∷ 255 ∷ 255 ∷ 255 ∷ 255 ∷ 0 ∷ 0 ∷ 0 ∷ 2 ∷ 195 ∷ 169 ∷ 255 ∷ 255 ∷ []
+pub null_canonical : canonical_front wide_columns (wide_values ∷ []) ++ trailer ≡ plain ++ 0 ∷ 3 ∷ 255 ∷ 255 ∷ 255 ∷ 255 ∷ 255 ∷ 255 ∷ 255 ∷ 255 ∷ 0 ∷ 0 ∷ 0 ∷ 2 ∷ 195 ∷ 169 ∷ 255 ∷ 255 ∷ []
 null_canonical = refl

@@ -1,8 +1,6 @@
 -- What the definitions say of cells that spell no value of a column, or one that is too long.
 use Rattle.std.specs.Str.{IsUtf8, chars, is_utf8}
-use Rattle.std.proofs.Common.{◌≡◌, pos, List, [], ◌∷◌, ◌++◌, length, Some, None, true, false, refl, ap, sym, ◌∙◌, lit≤, arith}
-use Rattle.std.proofs.lemmas.Str.{is_utf8-from_IsUtf8}
-use Rattle.std.proofs.lemmas.Bool.{false≢true}
+use Rattle.std.proofs.Common.{◌≡◌, pos, List, [], ◌∷◌, ◌++◌, length, Some, None, true, false, refl, ap, ◌∙◌, lit≤, arith}
 use lib.Utf8.{encode}
 use Rattle.pgw_wire.specs.Cell.{Cell}
 use Rattle.pgw_wire.specs.declared.kind.Break.{Break}
@@ -12,6 +10,7 @@ use Rattle.pgw_tree.specs.Spells.{SpellsRow}
 use Rattle.pgw_tree.specs.Canonical.{Fits}
 use Rattle.pgw_tree.specs.Breaks.{Breaks}
 use Rattle.pgw_tree.specs.Columns.{IsColumnAt, BreaksAt, IsLongAt}
+use Rattle.pgw_tree.proofs.Text.{no_utf8}
 use Rattle.pgw_tree.proofs.Worked.{spelled_42, letter_e_acute}
 
 -- A null breaks as null where the type allows none, and else in no kind.
@@ -37,7 +36,7 @@ unfolding is_utf8 chars encode
 tested = refl
 
 pub broken_text : Breaks text Utf8 (Some (195 ∷ 40 ∷ []))
-broken_text = (refl, λ h. false≢true (sym tested ∙ is_utf8-from_IsUtf8 (195 ∷ 40 ∷ []) h))
+broken_text = (refl, no_utf8 (195 ∷ 40 ∷ []) tested)
 
 pub whole_text : (kind : Break) → Breaks text kind (Some (195 ∷ 169 ∷ [])) → ⊥
 whole_text kind h = h.1 letter_e_acute
@@ -93,6 +92,6 @@ long_text = record {
   cell = Some (97 ∷ 98 ∷ 99 ∷ []);
   value = string (97 ∷ 98 ∷ 99 ∷ []);
   behind = record { before = []; after = []; spelling = []; rest = []; values = []; columns_are = refl; cells_are = refl; place = refl; spelled = tt; each = refl; fit = tt };
-  spells = record { utf8 = letters; is = refl };
+  spells = (97 ∷ 98 ∷ 99 ∷ [], record { utf8 = letters; bytes = refl }, refl);
   long = λ fits. omega (arith, fits);
 }

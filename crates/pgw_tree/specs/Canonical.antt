@@ -1,42 +1,25 @@
--- The one cell that a value is written as, and the one stream that rows of values are written as.
+-- The one cell that a value is written as, and what rows of values are written as, from the header through the last of
+-- them. Behind that the end makes it their canonical stream.
 use Rattle.std.specs.Prelude.{ℕ, ◌≤◌, List, [], ◌∷◌, ◌++◌, length, None, Some}
 use Rattle.std.specs.List.{flat_map}
-use Rattle.std.specs.Int.{to_be_bytes, cast_unsigned, w16, w32}
+use Rattle.std.specs.Int.{to_be_bytes, w16}
 use Rattle.pgw_wire.specs.Cell.{Cell, frame}
-use Rattle.pgw_tree.specs.Tree.{Shape, int4, text, nullable, Value, null, number, string}
-use Rattle.pgw_copy.specs.Format.{canonical_header, trailer}
-
-abbrev pub int4_bytes : Value → List ℕ
-int4_bytes (number n) = to_be_bytes w32 (cast_unsigned w32 n)
-int4_bytes null = []
-int4_bytes (string s) = []
-
-abbrev pub text_bytes : Value → List ℕ
-text_bytes (string s) = s
-text_bytes null = []
-text_bytes (number n) = []
-
-abbrev pub canonical_piece : Shape → Value → List ℕ
-canonical_piece int4 v = int4_bytes v
-canonical_piece text v = text_bytes v
-canonical_piece (nullable t) v = canonical_piece t v
+use Rattle.pgw_tree.specs.Tree.{Shape, Value, null}
+use Rattle.pgw_tree.specs.Pieces.{canonical_piece, piece_size}
+use Rattle.pgw_copy.specs.Format.{canonical_header}
 
 abbrev pub unless_null : Value → List ℕ → Cell
 unless_null null piece = None
-unless_null (number n) piece = Some piece
-unless_null (string s) piece = Some piece
+unless_null _ piece = Some piece
 
 -- The one cell that a value of the type is written as.
 abbrev pub canonical_cell : Shape → Value → Cell
 canonical_cell t v = unless_null v (canonical_piece t v)
 
--- how many bytes a cell has, 0 for a null
-abbrev pub size_of : Cell → ℕ
-size_of None = 0
-size_of (Some p) = length p
-
+-- how many bytes the canonical cell has of a value that a cell of the type spells, 0 for a null
 abbrev pub canonical_size : Shape → Value → ℕ
-canonical_size t v = size_of (canonical_cell t v)
+canonical_size t null = 0
+canonical_size t v = piece_size t v
 
 -- The value's canonical cell has at most this many bytes.
 abbrev pub Fits : ℕ → Shape → Value → Type 0
@@ -58,6 +41,3 @@ canonical_row columns values = to_be_bytes w16 (length columns) ++ flat_map fram
 
 abbrev pub canonical_front : List Shape → List (List Value) → List ℕ
 canonical_front columns rows = canonical_header ++ flat_map (canonical_row columns) rows
-
-abbrev pub canonical_stream : List Shape → List (List Value) → List ℕ
-canonical_stream columns rows = canonical_front columns rows ++ trailer

@@ -7,8 +7,14 @@ use Rattle.pgw_tree.specs.Spells.{Spells, SpellsRow}
 use Rattle.pgw_tree.specs.Canonical.{Fits, FitsRow}
 use Rattle.pgw_tree.specs.Breaks.{Breaks}
 
+-- The first cells of a row spell these values, which fit.
+pub record SpellsFit (most : ℕ) (columns : List Shape) (cells : List Cell) (values : List Value) : Type 0 where
+  pub spelled : SpellsRow columns cells values
+  pub fit : FitsRow most columns values
+
 -- The columns in front of one, whose cells spell values that fit, and that column with its cell.
-pub record IsColumnAt (most : ℕ) (columns : List Shape) (cells : List Cell) (column : ℕ) (t : Shape) (cell : Cell) : Type 0 where
+pub record IsColumnAt (most : ℕ) (columns : List Shape) (cells : List Cell) (column : ℕ) (t : Shape)
+    (cell : Cell) : Type 0 where
   pub before : List Shape
   pub after : List Shape
   pub spelling : List Cell

@@ -1,8 +1,7 @@
 -- What the steps of a copy leave, for the crate's own functions: a row or the end at a time, and the rows so far.
-use Rattle.std.specs.Prelude.{◌≡◌, ℕ, List, length, Option, Result, Ok, Err}
-use Rattle.std.specs.Io.KnownBytes.{IsAtEnd}
+use Rattle.std.specs.Prelude.{◌≡◌, ℕ, List, length, Result}
 use Rattle.pgw_wire.specs.Cell.{Cell}
-use Rattle.pgw_wire.specs.Outside.{Took}
+use Rattle.pgw_wire.specs.Outside.{SourceState, Takes}
 use Rattle.pgw_copy.specs.Format.{IsRow}
 use Rattle.pgw_tree.specs.declared.fault.CopyFault.{CopyFault}
 use Rattle.pgw_tree.specs.declared.fault.CopyFault.TheVariants.{Truncated, ReadFault}
@@ -19,16 +18,15 @@ pub record IsValuesRow (most : ℕ) (columns : List Shape) (bytes : List ℕ) (v
   pub spelled : SpellsRow columns cells values
   pub fit : FitsRow most columns values
 
--- At Ok(x) the bytes taken have P x, and at a fault Fault of it. `Truncated` comes only at the end of the source, and
--- `ReadFault` only where the source failed.
-pub record TakesPart {X : Type 0} (before now : Option (List ℕ)) (failed : Type 0) (result : Result X CopyFault) (P : X → List ℕ → Type 0) (Fault : CopyFault → List ℕ → Type 0) : Type 0 where
-  pub ok : (x : X) → result ≡ Ok x → Took before now (P x)
-  pub err : (e : CopyFault) → result ≡ Err e → Took before now (Fault e)
-  pub at_end : result ≡ Err Truncated → IsAtEnd now
-  pub has_failed : result ≡ Err ReadFault → failed
+-- What a call of a copy takes, where `Truncated` comes only at the end of the source, and `ReadFault` only where it
+-- failed.
+abbrev pub Copies : {X Origin : Type 0} → SourceState Origin → SourceState Origin → Result X CopyFault
+    → (X → List ℕ → Type 0) → (CopyFault → List ℕ → Type 0) → Type 0
+Copies before now result P Fault = Takes Truncated ReadFault before now result P Fault
 
 -- the rows so far: the front that spells them was taken, and its canonical form was written
-pub record IsCopying (limits : Limits) (columns : List Shape) (n : ℕ) (Written : List ℕ → Type 0) (taken : List ℕ) : Type 0 where
+pub record IsCopying (limits : Limits) (columns : List Shape) (n : ℕ) (Written : List ℕ → Type 0)
+    (taken : List ℕ) : Type 0 where
   pub rows : List (List Value)
   pub begins : IsFront columns taken rows
   pub within : IsWithin limits columns rows

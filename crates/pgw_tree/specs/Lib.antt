@@ -1,12 +1,17 @@
 pub mod Breaks
 pub mod Columns
 pub mod Canonical
+pub mod Pieces
 pub mod Spells
+pub mod Reads
 pub mod Stream
 pub mod Tree
+pub mod Int4
+pub mod Text
 pub mod Limits
 pub mod Causes
 pub mod Copying
+pub mod Sending
 pub mod Runs
 pub mod ReadErrors
 pub mod Plain

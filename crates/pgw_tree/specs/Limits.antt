@@ -8,7 +8,9 @@ pub record Limits : Type 0 where
   pub field_max : ℕ
 
 abbrev pub limits_code : Coded Limits
-limits_code = code_by (ℕ × ℕ) (coded× coded_ℕ coded_ℕ) (λ l. (l.rows_max, l.field_max)) (λ p. record { rows_max = p.0; field_max = p.1 }) (λ _. refl)
+limits_code =
+    code_by (ℕ × ℕ) (coded× coded_ℕ coded_ℕ) (λ l. (l.rows_max, l.field_max))
+    (λ p. record { rows_max = p.0; field_max = p.1 }) (λ _. refl)
 
 abbrev pub default_limits : Limits
 default_limits = record { rows_max = 18446744073709551615; field_max = 2147483647 }

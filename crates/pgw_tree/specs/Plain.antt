@@ -1,9 +1,11 @@
 -- Rows whose bytes are the canonical ones of their values already, so that they may be written as they stand.
 use Rattle.std.specs.Prelude.{◌≡◌, ℕ, ◌≤◌, ◌++◌, List, [], ◌∷◌, length, Some}
+use Rattle.std.specs.Io.{StartsWith}
 use Rattle.pgw_wire.specs.Cell.{frame}
 use Rattle.pgw_copy.specs.Format.{IsField}
 use Rattle.pgw_tree.specs.Tree.{Shape, Value}
-use Rattle.pgw_tree.specs.Spells.{SpellsPiece, Spells}
+use Rattle.pgw_tree.specs.Pieces.{SpellsPiece}
+use Rattle.pgw_tree.specs.Spells.{Spells}
 use Rattle.pgw_tree.specs.Canonical.{Fits, canonical_cell, canonical_row}
 use Rattle.pgw_tree.specs.Copying.{IsValuesRow}
 
@@ -31,4 +33,14 @@ pub record IsPlainRow (most : ℕ) (columns : List Shape) (bytes : List ℕ) (va
 -- the canonical rows of these values, one behind the other
 abbrev pub ArePlainRows : ℕ → List Shape → List ℕ → List (List Value) → Type 0
 ArePlainRows most columns bytes [] = bytes ≡ []
-ArePlainRows most columns bytes (values ∷ rows) = (row : List ℕ) × (rest : List ℕ) × IsPlainRow most columns row values × ArePlainRows most columns rest rows × (bytes ≡ row ++ rest)
+ArePlainRows most columns bytes (values ∷ rows) =
+    (row : List ℕ) × (rest : List ℕ) × IsPlainRow most columns row values × ArePlainRows most columns rest rows
+    × (bytes ≡ row ++ rest)
+
+-- So many rows, `limit` at most, that are canonical as they stand are the front of these bytes.
+pub record IsPlainRun (most : ℕ) (columns : List Shape) (limit : ℕ) (bytes run : List ℕ) (many : ℕ) : Type 0 where
+  pub rows : List (List Value)
+  pub few : many ≤ limit
+  pub front : StartsWith bytes run
+  pub as_many : length rows ≡ many
+  pub plain : ArePlainRows most columns run rows

@@ -4,14 +4,14 @@ use Rattle.std.specs.List.{AllByRecursion, flat_map}
 use Rattle.pgw_copy.specs.Format.{AreFields, trailer}
 use Rattle.pgw_wire.specs.Cell.{Cell, frame}
 use Rattle.pgw_tree.specs.Tree.{Shape, Value}
-use Rattle.pgw_tree.specs.Spells.{SpellsRow}
+use Rattle.pgw_tree.specs.Columns.{SpellsFit}
 use Rattle.pgw_tree.specs.Canonical.{FitsRow, canonical_cells, canonical_row}
 use Rattle.pgw_tree.specs.Stream.{AreRows}
 use Rattle.pgw_tree.specs.Limits.{Limits}
 use Rattle.pgw_tree.specs.Plain.{ArePlainRows}
-use Rattle.pgw_tree.specs.Causes.{PartWritten, row_cause}
+use Rattle.pgw_tree.specs.Causes.{WroteBehind, RowCause}
 use Rattle.pgw_tree.specs.declared.fault.CopyFault.{CopyFault}
-use Rattle.pgw_tree.specs.declared.fault.CopyFault.TheVariants.{WriteFault}
+use Rattle.pgw_tree.specs.declared.fault.CopyFault.TheVariants.{ReadFault, WriteFault}
 use Rattle.pgw_tree.specs.Copying.{IsValuesRow}
 use Rattle.pgw_tree.specs.declared.shown.Copied.{Copied}
 use Rattle.pgw_tree.specs.declared.shown.Copied.TheVariants.{Whole, Broken}
@@ -24,7 +24,8 @@ pub record AreRespelled (most : ℕ) (columns : List Shape) (many : ℕ) (canoni
   pub plain : ArePlainRows most columns canonical rows
 
 -- Of these rows the bytes are the first ones, through the one in whose canonical form the byte behind so many is.
-pub record EndsInRow (most : ℕ) (columns : List Shape) (rows : List (List Value)) (sent : ℕ) (bytes : List ℕ) : Type 0 where
+pub record EndsInRow (most : ℕ) (columns : List Shape) (rows : List (List Value)) (sent : ℕ)
+    (bytes : List ℕ) : Type 0 where
   pub before : List (List Value)
   pub last : List Value
   pub after : List (List Value)
@@ -37,27 +38,30 @@ pub record EndsInRow (most : ℕ) (columns : List Shape) (rows : List (List Valu
   pub begun : length (flat_map (canonical_row columns) before) ≤ sent
   pub ends : sent < length (flat_map (canonical_row columns) before) + length (canonical_row columns last)
 
--- a field for each column, which spell values that fit, and the canonical fields of these
-pub record AreRespelledFields (most : ℕ) (columns : List Shape) (fields canonical : List ℕ) : Type 0 where
+-- In front of the rest stands a field for each column, which spell values that fit, and the canonical fields of these
+-- were appended to what a buffer had.
+pub record RespellsFields (most : ℕ) (columns : List Shape) (bytes rest old new : List ℕ) : Type 0 where
+  pub fields : List ℕ
   pub cells : List Cell
   pub values : List Value
   pub each : AreFields cells fields
   pub many : length cells ≡ length columns
-  pub spelled : SpellsRow columns cells values
-  pub fit : FitsRow most columns values
-  pub is : canonical ≡ flat_map frame (canonical_cells columns values)
+  pub first : SpellsFit most columns cells values
+  pub is : bytes ≡ fields ++ rest
+  pub appended : new ≡ old ++ flat_map frame (canonical_cells columns values)
 
--- A row stands in front of the rest, its first cells spell values that fit, and this is their canonical row.
-pub record IsRespelledRow (most : ℕ) (columns : List Shape) (bytes rest canonical : List ℕ) : Type 0 where
+-- In front of the rest stands a row whose first cells spell values that fit, and their canonical row was appended.
+pub record RespellsRow (most : ℕ) (columns : List Shape) (bytes rest old new : List ℕ) : Type 0 where
   pub row : List ℕ
   pub values : List Value
   pub is_row : IsValuesRow most columns row values
   pub is : bytes ≡ row ++ rest
-  pub form : canonical ≡ canonical_row columns values
+  pub appended : new ≡ old ++ canonical_row columns values
 
--- Behind so many rows some more were copied, so that there are that many now: they stand one behind the other, their values
--- are within the limits, and their canonical form was written.
-pub record IsRun (limits : Limits) (columns : List Shape) (before after : ℕ) (Written : List ℕ → Type 0) (bytes : List ℕ) : Type 0 where
+-- Behind so many rows some more were copied, so that there are that many now: they stand one behind the other, their
+-- values are within the limits, and their canonical form was written.
+pub record IsRun (limits : Limits) (columns : List Shape) (before after : ℕ) (Written : List ℕ → Type 0)
+    (bytes : List ℕ) : Type 0 where
   pub rows : List (List Value)
   pub each : AreRows columns bytes rows
   pub fit : AllByRecursion (FitsRow limits.field_max columns) rows
@@ -66,7 +70,8 @@ pub record IsRun (limits : Limits) (columns : List Shape) (before after : ℕ) (
   pub written : Written (flat_map (canonical_row columns) rows)
 
 -- The sink failed in the last of these rows, of which it has a front of the canonical form.
-pub record IsBrokenRun (limits : Limits) (columns : List Shape) (before : ℕ) (Written : List ℕ → Type 0) (bytes : List ℕ) : Type 0 where
+pub record IsBrokenRun (limits : Limits) (columns : List Shape) (before : ℕ) (Written : List ℕ → Type 0)
+    (bytes : List ℕ) : Type 0 where
   pub rows : List (List Value)
   pub last : List Value
   pub front : List ℕ
@@ -76,16 +81,26 @@ pub record IsBrokenRun (limits : Limits) (columns : List Shape) (before : ℕ) (
   pub is_last : IsValuesRow limits.field_max columns row last
   pub is : bytes ≡ front ++ row
   pub few : before + length rows < limits.rows_max
-  pub part : PartWritten (flat_map (canonical_row columns) rows) (canonical_row columns last) Written
+  pub part : WroteBehind Written (flat_map (canonical_row columns) rows) (canonical_row columns last)
 
--- Of a call that takes a row or the end, behind so many rows: a row that was copied, or the end, at which nothing was written.
+-- Of a call that takes a row or the end, behind so many rows: a row that was copied, or the end, at which nothing was
+-- written.
 abbrev pub IsNextRow : Limits → List Shape → ℕ → (List ℕ → Type 0) → Bool → List ℕ → Type 0
 IsNextRow limits columns before Written true bytes = IsRun limits columns before (before + 1) Written bytes
 IsNextRow limits columns before Written false bytes = (bytes ≡ trailer) × Written []
 
--- what a fault of that call says: its cause, at which nothing was written; or that the sink failed in a row
-abbrev pub next_row_fault : Limits → List Shape → ℕ → (List ℕ → Type 0) → CopyFault → List ℕ → Type 0
-next_row_fault limits columns before Written fault bytes = (row_cause limits columns before fault bytes × Written []) ⊎ ((fault ≡ WriteFault) × IsBrokenRun limits columns before Written bytes)
+-- what a fault of copying rows says: its cause, at which nothing was written; or that the sink failed in a row
+abbrev pub rows_fault : Limits → List Shape → ℕ → (List ℕ → Type 0) → CopyFault → List ℕ → Type 0
+rows_fault limits columns before Written fault bytes =
+    (RowCause limits columns before fault bytes × Written [])
+    ⊎ ((fault ≡ WriteFault) × IsBrokenRun limits columns before Written bytes)
+
+-- what a fault of copying the rows that a source shows says: it failed, and nothing was taken or written; or the sink failed
+-- in a row
+abbrev pub shown_fault : Limits → List Shape → ℕ → (List ℕ → Type 0) → CopyFault → List ℕ → Type 0
+shown_fault limits columns before Written fault bytes =
+    ((fault ≡ ReadFault) × (bytes ≡ []) × Written [])
+    ⊎ ((fault ≡ WriteFault) × IsBrokenRun limits columns before Written bytes)
 
 abbrev pub length_of : Copied → ℕ
 length_of (Whole rows len) = len
@@ -98,5 +113,7 @@ rows_of (Broken len) = None
 
 -- what the copy of rows at the front of bytes did, which stands behind so many
 abbrev pub copied_says : Limits → List Shape → ℕ → (List ℕ → Type 0) → Type 0 → List ℕ → Copied → Type 0
-copied_says limits columns before Written failed bytes (Whole rows len) = (len ≤ length bytes) × IsRun limits columns before rows Written (take len bytes)
-copied_says limits columns before Written failed bytes (Broken len) = (len ≤ length bytes) × IsBrokenRun limits columns before Written (take len bytes) × failed
+copied_says limits columns before Written failed bytes (Whole rows len) =
+    (len ≤ length bytes) × IsRun limits columns before rows Written (take len bytes)
+copied_says limits columns before Written failed bytes (Broken len) =
+    (len ≤ length bytes) × IsBrokenRun limits columns before Written (take len bytes) × failed

@@ -11,7 +11,9 @@ use Rattle.pgw_copy.specs.Format.{IsHeader, IsRow, trailer}
 -- rows, one behind the other, whose first cells spell these values
 abbrev pub AreRows : List Shape → List ℕ → List (List Value) → Type 0
 AreRows columns bytes [] = bytes ≡ []
-AreRows columns bytes (values ∷ rows) = (cells : List Cell) × (row : List ℕ) × (rest : List ℕ) × IsRow cells row × SpellsRow columns cells values × AreRows columns rest rows × (bytes ≡ row ++ rest)
+AreRows columns bytes (values ∷ rows) =
+    (cells : List Cell) × (row : List ℕ) × (rest : List ℕ) × IsRow cells row × SpellsRow columns cells values
+    × AreRows columns rest rows × (bytes ≡ row ++ rest)
 
 -- a stream without its end: a header, and rows that spell these values
 pub record IsFront (columns : List Shape) (bytes : List ℕ) (rows : List (List Value)) : Type 0 where
@@ -32,8 +34,10 @@ pub record IsWithin (limits : Limits) (columns : List Shape) (rows : List (List 
 
 -- a stream of some rows within the limits
 abbrev pub IsValidStream : Limits → List Shape → List ℕ → Type 0
-IsValidStream limits columns bytes = (rows : List (List Value)) × IsStream columns bytes rows × IsWithin limits columns rows
+IsValidStream limits columns bytes =
+    (rows : List (List Value)) × IsStream columns bytes rows × IsWithin limits columns rows
 
 -- a stream of this many rows within the limits
 abbrev pub IsStreamOf : Limits → List Shape → ℕ → List ℕ → Type 0
-IsStreamOf limits columns n bytes = (rows : List (List Value)) × IsStream columns bytes rows × IsWithin limits columns rows × (length rows ≡ n)
+IsStreamOf limits columns n bytes =
+    (rows : List (List Value)) × IsStream columns bytes rows × IsWithin limits columns rows × (length rows ≡ n)

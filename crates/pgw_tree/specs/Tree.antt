@@ -1,7 +1,6 @@
 -- Column types and their values as plain data, without how a program keeps them.
 use Rattle.std.specs.Prelude.{ℕ, ℤ, Bool, true, false, List, map}
 use Rattle.pgw_tree.specs.declared.types.FirstType.{FirstType}
-use Rattle.pgw_tree.specs.declared.list.FirstList.{FirstList}
 use Rattle.pgw_tree.specs.declared.types.FirstType.TheVariants.{Int4, Int4Null, Text, TextNull}
 
 pub data Shape : Type 0 where
@@ -16,9 +15,8 @@ pub data Value : Type 0 where
   string : List ℕ → Value
 
 abbrev pub is_nullable : Shape → Bool
-is_nullable int4 = false
-is_nullable text = false
 is_nullable (nullable t) = true
+is_nullable _ = false
 
 abbrev pub shape : FirstType → Shape
 shape Int4 = int4
@@ -28,7 +26,3 @@ shape TextNull = nullable text
 
 abbrev pub shapes : List FirstType → List Shape
 shapes ts = map shape ts
-
--- the types that a list of columns holds
-abbrev pub columns_of : FirstList → List FirstType
-columns_of l = l.columns.items

@@ -5,12 +5,14 @@ ghost use Rattle.std.specs.Io.{StartsWith};
 ghost use Rattle.pgw_wire.specs.Cell.{Cell, cell_of, frame};
 ghost use Rattle.pgw_copy.specs.State.{cells_of};
 ghost use Rattle.pgw_tree.specs.Tree.{Value, shape, shapes, int4, text};
-ghost use Rattle.pgw_tree.specs.Spells.{SpellsPiece, Spells, SpellsRow};
+ghost use Rattle.pgw_tree.specs.Pieces.{SpellsPiece, BreaksPiece};
+ghost use Rattle.pgw_tree.specs.Spells.{Spells, SpellsRow};
 ghost use Rattle.pgw_tree.specs.Canonical.{Fits, FitsRow, canonical_cell, canonical_cells};
-ghost use Rattle.pgw_tree.specs.Breaks.{BreaksPiece, Breaks};
-ghost use Rattle.pgw_tree.specs.Columns.{BreaksAt, IsLongAt};
+ghost use Rattle.pgw_tree.specs.Breaks.{Breaks};
+ghost use Rattle.pgw_tree.specs.Columns.{SpellsFit};
+ghost use Rattle.pgw_tree.specs.Sending.{SendCause, in_row};
 
-use crate::FirstType;
+use crate::{CopyFault, FirstType};
 use pgw_copy::RawRow;
 use pgw_wire::{Break, ByteBuffer, NoMemory as NoMemoryLeft, RawCell};
 
@@ -124,6 +126,7 @@ pub(crate) fn push_field(
 }
 
 /// Why the canonical form of a row was not made or not written.
+#[derive(Clone, Copy)]
 pub(crate) enum SendFault {
     /// It has fewer fields than there are columns.
     TooFew,
@@ -137,6 +140,21 @@ pub(crate) enum SendFault {
     NoMemory,
 }
 
+impl SendFault {
+    /// The fault of the copy, by the place of the row.
+    pub(crate) fn in_row(self, row: u64) -> CopyFault
+        ensures { result ≡ in_row row self }
+    {
+        match self {
+            SendFault::TooFew => CopyFault::UnexpectedEndOfRow { row },
+            SendFault::BadValue { column, kind } => CopyFault::BadValue { row, column, kind },
+            SendFault::TooLong { column } => CopyFault::TooLong { row, column },
+            SendFault::WriteFault => CopyFault::WriteFault,
+            SendFault::NoMemory => CopyFault::NoMemory,
+        }
+    }
+}
+
 /// Appends the canonical fields of the values that the first cells of a row spell, column by column. Behind an error
 /// a part of them may be appended.
 pub(crate) fn push_columns(
@@ -145,15 +163,9 @@ pub(crate) fn push_columns(
     field_max: u32,
     out: &mut ByteBuffer,
 ) -> Result<(), SendFault>
-    ensures ok { OnOk result ((values : List Value) × SpellsRow (shapes columns.now) (cells_of row.now) values
-        × FitsRow field_max (shapes columns.now) values
+    ensures ok { OnOk result ((values : List Value) × SpellsFit field_max (shapes columns.now) (cells_of row.now) values
         × (out.new.bytes ≡ out.old.bytes ++ flat_map frame (canonical_cells (shapes columns.now) values))) }
-    ensures too_few { result ≡ Err SendFault.TooFew → length (cells_of row.now) < length columns.now }
-    ensures bad_value { (column : _) (kind : _) → result ≡ Err (SendFault.BadValue column kind)
-        → BreaksAt field_max (shapes columns.now) (cells_of row.now) column kind }
-    ensures too_long { (column : _) → result ≡ Err (SendFault.TooLong column)
-        → IsLongAt field_max (shapes columns.now) (cells_of row.now) column }
-    ensures no_write { result ≢ Err SendFault.WriteFault }
+    ensures err { IfErr result (SendCause field_max (shapes columns.now) (cells_of row.now) ⊥) }
 {
     if row.len() < columns.len() {
         return Err(SendFault::TooFew);

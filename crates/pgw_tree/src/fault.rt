@@ -26,7 +26,7 @@ pub enum CopyFault {
         row: u64,
     },
     /// The field of the row in this column spells no value of the column's type.
-    #[error("row {row} column {column}: {kind:?}")]
+    #[error("row {row} column {column}: {kind}")]
     BadValue {
         row: u64,
         column: usize,

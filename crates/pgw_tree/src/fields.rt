@@ -3,13 +3,8 @@ ghost use Rattle.pgw_wire.specs.Cell.{Cell, cell_of};
 ghost use Rattle.pgw_copy.specs.Format.{IsField, AreFields, IsRow};
 ghost use Rattle.pgw_copy.specs.Reader.{IsCutField, AreCutFields, IsWholeRow};
 
+use pgw_copy::{NEGATIVE_COUNT, NEGATIVE_LENGTH};
 use pgw_wire::{RawCell, take_piece, take_u16, take_u32};
-
-/// From here on a length is negative, in two's complement.
-const NEGATIVE_LENGTH: u32 = 1 << 31;
-
-/// From here on a count is negative, in two's complement.
-pub(crate) const NEGATIVE_COUNT: u16 = 1 << 15;
 
 /// The cell of the field at the front, and what stands behind the field. None where no whole field stands there.
 #[inline(always)]

@@ -2,8 +2,11 @@
 #![tactic(auto)]
 
 mod cells;
+#[cfg(test)]
+mod copy_tests;
 mod fault;
 mod fields;
+pub mod laws;
 mod limits;
 mod list;
 mod next_row;
@@ -16,7 +19,7 @@ mod tests;
 mod types;
 
 pub use fault::CopyFault;
-pub use limits::Limits;
+pub use limits::{FIELD_MAX, Limits};
 pub use list::FirstList;
 pub use recopy::recopy_first;
 pub use types::FirstType;

@@ -3,7 +3,7 @@ ghost use Rattle.std.specs.Prelude.{◌≡◌, ◌↔◌, ◌<◌, ◌≤◌, If
 use std::marker::Model;
 
 /// The longest field that PostgreSQL's format can state.
-const FIELD_MAX: u32 = i32::MAX as u32;
+pub const FIELD_MAX: u32 = i32::MAX as u32;
 
 /// How much is copied at most.
 #[derive(Clone, Copy, Debug, PartialEq, Eq)]

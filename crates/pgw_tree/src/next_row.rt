@@ -1,14 +1,13 @@
-ghost use Rattle.std.specs.Prelude.{◌≡◌, ◌≢◌, ◌<◌, ◌≤◌, ◌^◌, List, ℕ, length, true, OnOk, IfErr, Ok, Err};
-ghost use Rattle.pgw_wire.specs.Outside.{HasFailed, Wrote};
+ghost use Rattle.std.specs.Prelude.{◌≡◌, ◌≢◌, ◌<◌, ◌≤◌, ◌^◌, List, length, true, OnOk, IfErr, Ok, Err};
+ghost use Rattle.pgw_wire.specs.Outside.{HasFailed, Wrote, WroteFront};
 ghost use Rattle.pgw_copy.specs.Format.{IsRow};
-ghost use Rattle.pgw_copy.specs.State.{cells_of, bytes_of, IsReady};
-ghost use Rattle.pgw_copy.specs.Writer.{WroteFront};
+ghost use Rattle.pgw_copy.specs.State.{cells_of, bytes_of, ready};
 ghost use Rattle.pgw_tree.specs.Tree.{Value, shapes};
-ghost use Rattle.pgw_tree.specs.Spells.{SpellsRow};
-ghost use Rattle.pgw_tree.specs.Canonical.{FitsRow, canonical_row};
-ghost use Rattle.pgw_tree.specs.Columns.{BreaksAt, IsLongAt};
-ghost use Rattle.pgw_tree.specs.Copying.{TakesPart};
-ghost use Rattle.pgw_tree.specs.Runs.{IsNextRow, next_row_fault};
+ghost use Rattle.pgw_tree.specs.Canonical.{canonical_row};
+ghost use Rattle.pgw_tree.specs.Columns.{SpellsFit};
+ghost use Rattle.pgw_tree.specs.Sending.{SendCause};
+ghost use Rattle.pgw_tree.specs.Copying.{Copies};
+ghost use Rattle.pgw_tree.specs.Runs.{IsNextRow, rows_fault};
 
 use crate::cells::{SendFault, push_columns};
 use crate::plain::plain_rows;
@@ -24,15 +23,9 @@ fn fill_row(
     writer: &mut CopyWriter,
 ) -> Result<(), SendFault>
     requires { length columns.now < 2 ^ 15 }
-    ensures ok { OnOk result ((values : List Value) × SpellsRow (shapes columns.now) (cells_of row.now) values
-        × FitsRow field_max (shapes columns.now) values
+    ensures ok { OnOk result ((values : List Value) × SpellsFit field_max (shapes columns.now) (cells_of row.now) values
         × (writer.new.bytes ≡ canonical_row (shapes columns.now) values)) }
-    ensures too_few { result ≡ Err SendFault.TooFew → length (cells_of row.now) < length columns.now }
-    ensures bad_value { (column : _) (kind : _) → result ≡ Err (SendFault.BadValue column kind)
-        → BreaksAt field_max (shapes columns.now) (cells_of row.now) column kind }
-    ensures too_long { (column : _) → result ≡ Err (SendFault.TooLong column)
-        → IsLongAt field_max (shapes columns.now) (cells_of row.now) column }
-    ensures no_write { result ≢ Err SendFault.WriteFault }
+    ensures err { IfErr result (SendCause field_max (shapes columns.now) (cells_of row.now) ⊥) }
 {
     writer.begin_row(columns.len() as u16)?;
     push_columns(columns, row, field_max, writer.buffer())
@@ -50,22 +43,13 @@ fn send_values<K: Sink>(
     requires max { field_max < 2 ^ 31 }
     requires few { length columns.now < 2 ^ 15 }
     requires row { IsRow (cells_of row.now) (bytes_of row.now) }
-    ensures ok { OnOk result ((values : List Value) × SpellsRow (shapes columns.now) (cells_of row.now) values
-        × FitsRow field_max (shapes columns.now) values
-        × Wrote (K.gained sink.old) (K.gained sink.new) (K.settled sink.old) (K.settled sink.new) (canonical_row (shapes columns.now) values)) }
-    ensures write_fault { result ≡ Err SendFault.WriteFault
-        → (values : List Value) × SpellsRow (shapes columns.now) (cells_of row.now) values
-        × FitsRow field_max (shapes columns.now) values
-        × WroteFront (K.gained sink.old) (K.gained sink.new) (K.settled sink.old) (K.settled sink.new) (canonical_row (shapes columns.now) values)
-        × HasFailed (K.fault_count sink.old) (K.fault_count sink.new) }
-    ensures too_few { result ≡ Err SendFault.TooFew → length (cells_of row.now) < length columns.now }
-    ensures bad_value { (column : _) (kind : _) → result ≡ Err (SendFault.BadValue column kind)
-        → BreaksAt field_max (shapes columns.now) (cells_of row.now) column kind }
-    ensures too_long { (column : _) → result ≡ Err (SendFault.TooLong column)
-        → IsLongAt field_max (shapes columns.now) (cells_of row.now) column }
+    ensures ok { OnOk result ((values : List Value) × SpellsFit field_max (shapes columns.now) (cells_of row.now) values
+        × Wrote (K.state sink.old) (K.state sink.new) (canonical_row (shapes columns.now) values)) }
+    ensures err { IfErr result (SendCause field_max (shapes columns.now) (cells_of row.now)
+        ((values : List Value) × SpellsFit field_max (shapes columns.now) (cells_of row.now) values
+        × WroteFront (Wrote (K.state sink.old) (K.state sink.new)) (canonical_row (shapes columns.now) values)
+        × HasFailed (K.state sink.old) (K.state sink.new))) }
     ensures unwritten { IfErr result (λ fault. fault ≢ SendFault.WriteFault → sink.new ≡ sink.old) }
-    ensures faults { K.fault_count sink.old ≤ K.fault_count sink.new }
-    ensures origin { K.origin sink.new ≡ K.origin sink.old }
 {
     let bytes = row.as_bytes();
     let run = plain_rows(columns, field_max, 1, bytes);
@@ -94,23 +78,14 @@ pub(crate) fn copy_row<S: Source, K: Sink>(
     sink: &mut K,
 ) -> Result<bool, CopyFault>
     requires few { length columns.now < 2 ^ 15 }
-    requires ready { IsReady reader.old }
+    requires ready { reader.old ≡ ready }
     requires allowed { rows ≤ limits.rows_max }
-    ensures takes { TakesPart (S.left source.old) (S.left source.new)
-        (HasFailed (S.fault_count source.old) (S.fault_count source.new))
-        result
-        (IsNextRow limits (shapes columns.now) rows
-        (Wrote (K.gained sink.old) (K.gained sink.new) (K.settled sink.old) (K.settled sink.new)))
-        (next_row_fault limits (shapes columns.now) rows
-        (Wrote (K.gained sink.old) (K.gained sink.new) (K.settled sink.old) (K.settled sink.new))) }
-    ensures ready { result ≡ Ok true → IsReady reader.new }
+    ensures takes { Copies (S.state source.old) (S.state source.new) result
+        (IsNextRow limits (shapes columns.now) rows (Wrote (K.state sink.old) (K.state sink.new)))
+        (rows_fault limits (shapes columns.now) rows (Wrote (K.state sink.old) (K.state sink.new))) }
+    ensures ready { result ≡ Ok true → reader.new ≡ ready }
     ensures more { result ≡ Ok true → rows < limits.rows_max }
-    ensures write_fault { result ≡ Err CopyFault.WriteFault
-        → HasFailed (K.fault_count sink.old) (K.fault_count sink.new) }
-    ensures source_faults { S.fault_count source.old ≤ S.fault_count source.new }
-    ensures source_origin { S.origin source.new ≡ S.origin source.old }
-    ensures sink_faults { K.fault_count sink.old ≤ K.fault_count sink.new }
-    ensures sink_origin { K.origin sink.new ≡ K.origin sink.old }
+    ensures write_fault { result ≡ Err CopyFault.WriteFault → HasFailed (K.state sink.old) (K.state sink.new) }
 {
     if reader.next_count(source)?.is_none() {
         return Ok(false);
@@ -121,14 +96,6 @@ pub(crate) fn copy_row<S: Source, K: Sink>(
     let row = reader.read_fields(source)?;
     match send_values(columns, &row, limits.field_max(), writer, sink) {
         Ok(()) => Ok(true),
-        Err(SendFault::TooFew) => Err(CopyFault::UnexpectedEndOfRow { row: rows }),
-        Err(SendFault::BadValue { column, kind }) => Err(CopyFault::BadValue {
-            row: rows,
-            column,
-            kind,
-        }),
-        Err(SendFault::TooLong { column }) => Err(CopyFault::TooLong { row: rows, column }),
-        Err(SendFault::WriteFault) => Err(CopyFault::WriteFault),
-        Err(SendFault::NoMemory) => Err(CopyFault::NoMemory),
+        Err(fault) => Err(fault.in_row(rows)),
     }
 }

@@ -1,8 +1,7 @@
-ghost use Rattle.std.specs.Prelude.{◌≡◌, ◌<◌, ◌≤◌, ◌^◌, ◌++◌, List, ℕ, length, None, Some, IfSome};
-ghost use Rattle.std.specs.Io.{StartsWith};
+ghost use Rattle.std.specs.Prelude.{◌≡◌, ◌<◌, ◌^◌, ◌++◌, List, ℕ, length, None, Some, IfSome};
 ghost use Rattle.pgw_wire.specs.Cell.{frame};
 ghost use Rattle.pgw_tree.specs.Tree.{Value, shape, shapes, int4, text};
-ghost use Rattle.pgw_tree.specs.Plain.{IsPlainPieceBefore, IsPlainField, IsPlainRow, ArePlainRows};
+ghost use Rattle.pgw_tree.specs.Plain.{IsPlainPieceBefore, IsPlainField, IsPlainRow, IsPlainRun};
 
 use crate::FirstType;
 use crate::cells::{break_of_int4, break_of_text};
@@ -66,6 +65,7 @@ fn behind_null(bytes: &[u8]) -> Option<&[u8]>
 }
 
 /// What stands behind the canonical field of a value of the type. None where there is no such field.
+#[tactic(auto, using(crate::proofs::PlainRows::plain_some, crate::proofs::PlainRows::null_some))]
 #[inline(always)]
 fn behind_plain_field(column: FirstType, field_max: u32, bytes: &[u8]) -> Option<&[u8]>
     requires max { field_max < 2 ^ 31 }
@@ -116,10 +116,7 @@ pub(crate) struct Run<'a> {
 fn walk<'a>(columns: &[FirstType], field_max: u32, most: u64, bytes: &'a [u8]) -> Run<'a>
     requires max { field_max < 2 ^ 31 }
     requires few { length columns.now < 2 ^ 15 }
-    ensures limit { result.rows ≤ most }
-    ensures front { StartsWith bytes.now result.bytes.now }
-    ensures rows { (rows : List (List Value)) × (length rows ≡ result.rows)
-        × ArePlainRows field_max (shapes columns.now) result.bytes.now rows }
+    ensures { IsPlainRun field_max (shapes columns.now) most bytes.now result.bytes.now result.rows }
 {
     let mut rows = 0;
     let mut rest = bytes;
@@ -149,10 +146,7 @@ pub(crate) fn plain_rows<'a>(
 ) -> Run<'a>
     requires max { field_max < 2 ^ 31 }
     requires few { length columns.now < 2 ^ 15 }
-    ensures limit { result.rows ≤ most }
-    ensures front { StartsWith bytes.now result.bytes.now }
-    ensures rows { (rows : List (List Value)) × (length rows ≡ result.rows)
-        × ArePlainRows field_max (shapes columns.now) result.bytes.now rows }
+    ensures { IsPlainRun field_max (shapes columns.now) most bytes.now result.bytes.now result.rows }
 {
     match columns {
         [FirstType::Int4] => walk(&[FirstType::Int4], field_max, most, bytes),

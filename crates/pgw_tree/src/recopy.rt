@@ -1,8 +1,10 @@
 ghost use Rattle.std.specs.Prelude.{◌≡◌, ◌<◌, ◌≤◌, ◌^◌, List, length, true, Ok, Err, IfOk, OnOk, IsErr, IsOkUnless, option_map, ⊤};
-ghost use Rattle.std.specs.Io.KnownBytes.{Appends, IsAtEnd};
-ghost use Rattle.pgw_wire.specs.Outside.{HasFailed, Took, HasFront, HasNoFront, Gains, Wrote};
+ghost use Rattle.std.specs.Io.KnownBytes.{IsAtEnd};
+ghost use Rattle.pgw_wire.specs.Outside.{left, settled, HasFailed, Took, HasFront, HasNoFront, Gains, Wrote, Settled};
 ghost use Rattle.pgw_tree.specs.Tree.{shapes};
+ghost use Rattle.pgw_tree.specs.Canonical.{canonical_front};
 ghost use Rattle.pgw_tree.specs.Stream.{IsValidStream};
+ghost use Rattle.pgw_tree.specs.Copying.{Copies};
 ghost use Rattle.pgw_tree.specs.Causes.{IsCopied, fault_says};
 
 use crate::next_row::copy_row;
@@ -21,21 +23,12 @@ fn copy_stream<S: Source, K: Sink>(
     limits: Limits,
 ) -> Result<u64, CopyFault>
     requires { length columns.now < 2 ^ 15 }
-    ensures copied { (n : _) → result ≡ Ok n → Took (S.left source.old) (S.left source.new)
-        (IsCopied limits (shapes columns.now) n (Appends (K.gained sink.old) (K.gained sink.new))) }
-    ensures fault { (fault : _) → result ≡ Err fault → Took (S.left source.old) (S.left source.new)
-        (fault_says limits (shapes columns.now) fault
-        (Wrote (K.gained sink.old) (K.gained sink.new) (K.settled sink.old) (K.settled sink.new))) }
-    ensures at_end { result ≡ Err CopyFault.Truncated → IsAtEnd (S.left source.new) }
-    ensures read_fault { result ≡ Err CopyFault.ReadFault
-        → HasFailed (S.fault_count source.old) (S.fault_count source.new) }
-    ensures write_fault { result ≡ Err CopyFault.WriteFault
-        → HasFailed (K.fault_count sink.old) (K.fault_count sink.new) }
-    ensures settled { OnOk result (K.settled sink.new ≡ option_map (λ _. true) (K.settled sink.old)) }
-    ensures source_faults { S.fault_count source.old ≤ S.fault_count source.new }
-    ensures source_origin { S.origin source.new ≡ S.origin source.old }
-    ensures sink_faults { K.fault_count sink.old ≤ K.fault_count sink.new }
-    ensures sink_origin { K.origin sink.new ≡ K.origin sink.old }
+    ensures takes { Copies (S.state source.old) (S.state source.new) result
+        (λ n. IsCopied limits (shapes columns.now) (canonical_front (shapes columns.now)) n
+        (Settled (K.state sink.old) (K.state sink.new)))
+        (λ fault. fault_says limits (shapes columns.now) (canonical_front (shapes columns.now)) fault
+        (Wrote (K.state sink.old) (K.state sink.new))) }
+    ensures write_fault { result ≡ Err CopyFault.WriteFault → HasFailed (K.state sink.old) (K.state sink.new) }
 {
     let mut reader = CopyReader::start(alloc, source)?;
     let mut writer = CopyWriter::new(alloc);
@@ -94,36 +87,29 @@ pub fn recopy_first<S: Source, K: Sink>(
 
     // The bytes taken are a stream that spells as many rows as it answers, and the bytes written are their canonical
     // stream.
-    ensures copied { IfOk result (λ n. Took (S.left source.old) (S.left source.new)
-        (IsCopied limits (shapes columns.now) n (Appends (K.gained sink.old) (K.gained sink.new)))) }
-    ensures settled { OnOk result (K.settled sink.new ≡ option_map (λ _. true) (K.settled sink.old)) }
+    ensures copied { IfOk result (λ n. Took (S.state source.old) (S.state source.new)
+        (IsCopied limits (shapes columns.now) (canonical_front (shapes columns.now)) n (Settled (K.state sink.old) (K.state sink.new)))) }
+    ensures settled { OnOk result (settled (K.state sink.new) ≡ option_map (λ _. true) (settled (K.state sink.old))) }
 
     // What each fault says of the bytes that were taken, and of those that were written.
-    ensures fault { (fault : _) → result ≡ Err fault → Took (S.left source.old) (S.left source.new)
-        (fault_says limits (shapes columns.now) fault
-        (Wrote (K.gained sink.old) (K.gained sink.new) (K.settled sink.old) (K.settled sink.new))) }
-    ensures truncated { result ≡ Err CopyFault.Truncated → IsAtEnd (S.left source.new) }
-    ensures read_fault { result ≡ Err CopyFault.ReadFault
-        → HasFailed (S.fault_count source.old) (S.fault_count source.new) }
-    ensures write_fault { result ≡ Err CopyFault.WriteFault
-        → HasFailed (K.fault_count sink.old) (K.fault_count sink.new) }
+    ensures fault { (fault : _) → result ≡ Err fault → Took (S.state source.old) (S.state source.new)
+        (fault_says limits (shapes columns.now) (canonical_front (shapes columns.now)) fault (Wrote (K.state sink.old) (K.state sink.new))) }
+    ensures truncated { result ≡ Err CopyFault.Truncated → IsAtEnd (left (S.state source.new)) }
+    ensures read_fault { result ≡ Err CopyFault.ReadFault → HasFailed (S.state source.old) (S.state source.new) }
+    ensures write_fault { result ≡ Err CopyFault.WriteFault → HasFailed (K.state sink.old) (K.state sink.new) }
 
     // A valid stream is copied, unless memory runs out or an object outside failed.
-    ensures complete { HasFront (S.left source.old) (IsValidStream limits (shapes columns.now))
-        → (HasFailed (S.fault_count source.old) (S.fault_count source.new) → ⊥)
-        → (HasFailed (K.fault_count sink.old) (K.fault_count sink.new) → ⊥)
+    ensures complete { HasFront (left (S.state source.old)) (IsValidStream limits (shapes columns.now))
+        → ¬ HasFailed (S.state source.old) (S.state source.new)
+        → ¬ HasFailed (K.state sink.old) (K.state sink.new)
         → IsOkUnless result CopyFault.NoMemory }
 
     // What is told to begin with no valid stream is not copied.
-    ensures refused { HasNoFront (S.left source.old) (IsValidStream limits (shapes columns.now)) → IsErr result }
+    ensures refused { HasNoFront (left (S.state source.old)) (IsValidStream limits (shapes columns.now)) → IsErr result }
 
     // What is left, whatever it answers.
-    ensures taken { Took (S.left source.old) (S.left source.new) (λ _. ⊤) }
-    ensures gained { Gains (K.gained sink.old) (K.gained sink.new) }
-    ensures source_faults { S.fault_count source.old ≤ S.fault_count source.new }
-    ensures source_origin { S.origin source.new ≡ S.origin source.old }
-    ensures sink_faults { K.fault_count sink.old ≤ K.fault_count sink.new }
-    ensures sink_origin { K.origin sink.new ≡ K.origin sink.old }
+    ensures taken { Took (S.state source.old) (S.state source.new) (λ _. ⊤) }
+    ensures gained { Gains (K.state sink.old) (K.state sink.new) }
 {
     copy_stream(alloc, columns, source, sink, limits)
 }

@@ -1,12 +1,13 @@
-ghost use Rattle.std.specs.Prelude.{◌≡◌, ◌++◌, ◌<◌, ◌≤◌, ◌^◌, List, ℕ, length, IfSome, IsNone};
+ghost use Rattle.std.specs.Prelude.{◌≡◌, ◌<◌, ◌≤◌, ◌^◌, length, IfSome, IsNone};
 ghost use Rattle.std.specs.Io.{StartsWith};
 ghost use Rattle.pgw_tree.specs.Tree.{shapes};
-ghost use Rattle.pgw_tree.specs.Runs.{AreRespelled, AreRespelledFields, IsRespelledRow};
+ghost use Rattle.pgw_tree.specs.Runs.{AreRespelled, RespellsFields, RespellsRow};
 
 use crate::FirstType;
 use crate::cells::push_field;
-use crate::fields::{NEGATIVE_COUNT, behind_fields, front_cell};
+use crate::fields::{behind_fields, front_cell};
 use crate::plain::Run;
+use pgw_copy::NEGATIVE_COUNT;
 use pgw_wire::{ByteBuffer, take_u16};
 
 /// How many bytes of canonical rows are kept before they are written.
@@ -21,9 +22,8 @@ fn respell_fields<'a>(
     bytes: &'a [u8],
     out: &mut ByteBuffer,
 ) -> Option<&'a [u8]>
-    ensures some { IfSome result (λ rest. (fields : List ℕ) × (canonical : List ℕ)
-        × AreRespelledFields field_max (shapes columns.now) fields canonical
-        × (bytes.now ≡ fields ++ rest.now) × (out.new.bytes ≡ out.old.bytes ++ canonical)) }
+    ensures some { IfSome result (λ rest.
+        RespellsFields field_max (shapes columns.now) bytes.now rest.now out.old.bytes out.new.bytes) }
     ensures kept { StartsWith out.new.bytes out.old.bytes }
 {
     let mut rest = bytes;
@@ -46,9 +46,8 @@ fn push_row<'a>(
     out: &mut ByteBuffer,
 ) -> Option<&'a [u8]>
     requires few { length columns.now < 2 ^ 15 }
-    ensures some { IfSome result (λ rest. (canonical : List ℕ)
-        × IsRespelledRow field_max (shapes columns.now) bytes.now rest.now canonical
-        × (out.new.bytes ≡ out.old.bytes ++ canonical)) }
+    ensures some { IfSome result (λ rest.
+        RespellsRow field_max (shapes columns.now) bytes.now rest.now out.old.bytes out.new.bytes) }
     ensures kept { StartsWith out.new.bytes out.old.bytes }
 {
     let (count, fields) = take_u16(bytes)?;
@@ -74,9 +73,8 @@ fn respell_row<'a>(
     out: &mut ByteBuffer,
 ) -> Option<&'a [u8]>
     requires few { length columns.now < 2 ^ 15 }
-    ensures some { IfSome result (λ rest. (canonical : List ℕ)
-        × IsRespelledRow field_max (shapes columns.now) bytes.now rest.now canonical
-        × (out.new.bytes ≡ out.old.bytes ++ canonical)) }
+    ensures some { IfSome result (λ rest.
+        RespellsRow field_max (shapes columns.now) bytes.now rest.now out.old.bytes out.new.bytes) }
     ensures none { IsNone result → out.new.bytes ≡ out.old.bytes }
 {
     let kept = out.len();

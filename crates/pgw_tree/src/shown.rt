@@ -1,7 +1,8 @@
 ghost use Rattle.std.specs.Prelude.{◌≡◌, ◌<◌, ◌≤◌, ◌^◌, ◌+◌, ◌⊎◌, List, [], ℕ, length, take, Some, IfSome, IsNone, Ok, Err, IfErr};
-ghost use Rattle.pgw_wire.specs.Outside.{HasFailed, Took, Wrote};
+ghost use Rattle.pgw_wire.specs.Outside.{HasFailed, Wrote};
+ghost use Rattle.pgw_tree.specs.Copying.{Copies};
 ghost use Rattle.pgw_tree.specs.Tree.{Shape, Value, shapes};
-ghost use Rattle.pgw_tree.specs.Runs.{AreRespelled, EndsInRow, IsRun, IsBrokenRun, copied_says, length_of, rows_of};
+ghost use Rattle.pgw_tree.specs.Runs.{AreRespelled, EndsInRow, IsRun, shown_fault, copied_says, length_of, rows_of};
 
 use crate::fields::behind_row;
 use crate::plain::plain_rows;
@@ -74,11 +75,8 @@ fn send_rows<K: Sink>(
     requires rows { AreRespelled limits.field_max (shapes columns.now) many canonical.now run.now }
     requires allowed { before + many ≤ limits.rows_max }
     ensures copied { copied_says limits (shapes columns.now) before
-        (Wrote (K.gained sink.old) (K.gained sink.new) (K.settled sink.old) (K.settled sink.new))
-        (HasFailed (K.fault_count sink.old) (K.fault_count sink.new)) run.now result }
+        (Wrote (K.state sink.old) (K.state sink.new)) (HasFailed (K.state sink.old) (K.state sink.new)) run.now result }
     ensures more { (rows len : ℕ) → result ≡ Copied.Whole rows len → rows ≡ before + many }
-    ensures faults { K.fault_count sink.old ≤ K.fault_count sink.new }
-    ensures origin { K.origin sink.new ≡ K.origin sink.old }
 {
     let sent = send(sink, canonical);
     if sent < canonical.len() {
@@ -107,12 +105,9 @@ fn copy_front<K: Sink>(
     requires few { length columns.now < 2 ^ 15 }
     requires allowed { before < limits.rows_max }
     ensures copied { IfSome result (copied_says limits (shapes columns.now) before
-        (Wrote (K.gained sink.old) (K.gained sink.new) (K.settled sink.old) (K.settled sink.new))
-        (HasFailed (K.fault_count sink.old) (K.fault_count sink.new)) bytes.now) }
+        (Wrote (K.state sink.old) (K.state sink.new)) (HasFailed (K.state sink.old) (K.state sink.new)) bytes.now) }
     ensures more { (rows len : ℕ) → result ≡ Some (Copied.Whole rows len) → before < rows }
     ensures none { IsNone result → sink.new ≡ sink.old }
-    ensures faults { K.fault_count sink.old ≤ K.fault_count sink.new }
-    ensures origin { K.origin sink.new ≡ K.origin sink.old }
 {
     let most = limits.rows_max() - before;
     let run = plain_rows(columns, limits.field_max(), most, bytes);
@@ -149,10 +144,7 @@ fn copy_rows<K: Sink>(
     requires few { length columns.now < 2 ^ 15 }
     requires allowed { before ≤ limits.rows_max }
     ensures copied { copied_says limits (shapes columns.now) before
-        (Wrote (K.gained sink.old) (K.gained sink.new) (K.settled sink.old) (K.settled sink.new))
-        (HasFailed (K.fault_count sink.old) (K.fault_count sink.new)) bytes.now result }
-    ensures faults { K.fault_count sink.old ≤ K.fault_count sink.new }
-    ensures origin { K.origin sink.new ≡ K.origin sink.old }
+        (Wrote (K.state sink.old) (K.state sink.new)) (HasFailed (K.state sink.old) (K.state sink.new)) bytes.now result }
 {
     let mut rows = before;
     let mut len = 0;
@@ -190,10 +182,7 @@ impl<K: Sink> Taker<K> for RowTaker<'_> {
     ghost takes = { λ taker sink ready n then_ sink_then.
         (n ≡ length_of then_.copied)
         × copied_says taker.limits (shapes taker.columns.now) taker.before
-        (Wrote (K.gained sink) (K.gained sink_then) (K.settled sink) (K.settled sink_then))
-        (HasFailed (K.fault_count sink) (K.fault_count sink_then)) ready then_.copied
-        × (K.fault_count sink ≤ K.fault_count sink_then)
-        × (K.origin sink_then ≡ K.origin sink) };
+        (Wrote (K.state sink) (K.state sink_then)) (HasFailed (K.state sink) (K.state sink_then)) ready then_.copied };
 
     #[inline(always)]
     fn look(&mut self, to: &mut K, ready: &[u8]) -> usize {
@@ -221,22 +210,10 @@ pub(crate) fn copy_shown<S: Source, K: Sink>(
 ) -> Result<u64, CopyFault>
     requires few { length columns.now < 2 ^ 15 }
     requires allowed { before ≤ limits.rows_max }
-    ensures ok { (rows : ℕ) → result ≡ Ok rows → Took (S.left source.old) (S.left source.new)
-        (IsRun limits (shapes columns.now) before rows
-        (Wrote (K.gained sink.old) (K.gained sink.new) (K.settled sink.old) (K.settled sink.new))) }
-    ensures read_fault { result ≡ Err CopyFault.ReadFault
-        → Took (S.left source.old) (S.left source.new) (λ taken. taken ≡ [])
-        × Wrote (K.gained sink.old) (K.gained sink.new) (K.settled sink.old) (K.settled sink.new) []
-        × HasFailed (S.fault_count source.old) (S.fault_count source.new) }
-    ensures write_fault { result ≡ Err CopyFault.WriteFault
-        → Took (S.left source.old) (S.left source.new) (IsBrokenRun limits (shapes columns.now) before
-        (Wrote (K.gained sink.old) (K.gained sink.new) (K.settled sink.old) (K.settled sink.new)))
-        × HasFailed (K.fault_count sink.old) (K.fault_count sink.new) }
-    ensures faults { IfErr result (λ fault. (fault ≡ CopyFault.ReadFault) ⊎ (fault ≡ CopyFault.WriteFault)) }
-    ensures source_faults { S.fault_count source.old ≤ S.fault_count source.new }
-    ensures source_origin { S.origin source.new ≡ S.origin source.old }
-    ensures sink_faults { K.fault_count sink.old ≤ K.fault_count sink.new }
-    ensures sink_origin { K.origin sink.new ≡ K.origin sink.old }
+    ensures takes { Copies (S.state source.old) (S.state source.new) result
+        (λ rows. IsRun limits (shapes columns.now) before rows (Wrote (K.state sink.old) (K.state sink.new)))
+        (shown_fault limits (shapes columns.now) before (Wrote (K.state sink.old) (K.state sink.new))) }
+    ensures write_fault { result ≡ Err CopyFault.WriteFault → HasFailed (K.state sink.old) (K.state sink.new) }
 {
     let mut taker = RowTaker {
         columns,

@@ -47,13 +47,11 @@ struct Writes {
 }
 
 impl Sink for Writes {
-    ghost gained = { λ _. None };
-
-    ghost settled = { λ _. None };
-
-    ghost fault_count = { λ _. 18446744073709551615 };
-
-    ghost origin = { λ _. tt };
+    ghost state = { λ _. record {
+      told = record { bytes = None; settled = None };
+      fault_count = 18446744073709551615;
+      origin = tt;
+    } };
 
     fn write(&mut self, piece: &[u8]) -> Result<usize, Failed> {
         self.lengths.push(piece.len()).map_err(|_| Failed)?;

@@ -4,7 +4,8 @@ use Rattle.std.proofs.Math.Seq.{take-add}
 use Rattle.std.proofs.lemmas.List.{length-take}
 use Rattle.std.specs.Prelude.{option_map}
 use Rattle.std.specs.Io.KnownBytes.{Appends, Keeps}
-use Rattle.pgw_wire.specs.Outside.{settled_after, Wrote}
+use Rattle.pgw_wire.specs.Outside.{SinkState, gained, settled, GoesOn, Gains, settled_after, Wrote}
+use Rattle.pgw_wire.proofs.Taking.{goes_on_still, goes_on_then}
 
 -- two calls added the bytes of both
 pub appends_then : (a b c : Option (List ℕ)) (x y : List ℕ) → Appends a b x → Appends b c y → Appends a c (x ++ y)
@@ -46,14 +47,19 @@ keeps_same None = tt
 keeps_same (Some xs) = refl
 
 -- Nothing was written.
-pub wrote_none : (a : Option (List ℕ)) (s : Option Bool) → Wrote a a s s []
-wrote_none a s = record { appends = appends_kept a a (keeps_same a); settles = refl }
+pub wrote_none : {O : Type 0} (a : SinkState O) → Wrote a a []
+wrote_none a = record { appends = appends_kept (gained a) (gained a) (keeps_same (gained a)); settles = refl; goes_on = goes_on_still a }
+
+-- The sink is as before, so nothing was written.
+pub wrote_still : {Z O : Type 0} (state : Z → SinkState O) (before now : Z) → now ≡ before → Wrote (state before) (state now) []
+wrote_still {Z = Z} state before now same = subst (λ (z : Z). Wrote (state before) (state z) []) (sym same) (wrote_none (state before))
 
 -- What was written, and what was written behind it.
-pub wrote_then : {a b c : Option (List ℕ)} {s t u : Option Bool} {x y : List ℕ} → Wrote a b s t x → Wrote b c t u y → Wrote a c s u (x ++ y)
-wrote_then {a = a} {b = b} {c = c} {s = s} {t = t} {u = u} {x = x} {y = y} w v = record {
-  appends = appends_then a b c x y w.appends v.appends;
-  settles = settled_more s t u (length x) (length y) w.settles v.settles ∙ ap (λ n. settled_after n s) (sym (length-append x y));
+pub wrote_then : {O : Type 0} {a b c : SinkState O} {x y : List ℕ} → Wrote a b x → Wrote b c y → Wrote a c (x ++ y)
+wrote_then {a = a} {b = b} {c = c} {x = x} {y = y} w v = record {
+  appends = appends_then (gained a) (gained b) (gained c) x y w.appends v.appends;
+  settles = settled_more (settled a) (settled b) (settled c) (length x) (length y) w.settles v.settles ∙ ap (λ n. settled_after n (settled a)) (sym (length-append x y));
+  goes_on = goes_on_then a b c w.goes_on v.goes_on;
 }
 
 -- A flush adds nothing.
@@ -61,16 +67,21 @@ pub appends_keeps : (a b c : Option (List ℕ)) (x : List ℕ) → Appends a b x
 appends_keeps a b c x h k = subst (λ (l : List ℕ). Appends a c l) (append-nil x) (appends_then a b c x [] h (appends_kept b c k))
 
 -- A call that failed wrote nothing.
-pub wrote_kept : {a b c : Option (List ℕ)} {s t u : Option Bool} {x : List ℕ} → Wrote a b s t x → Keeps b c → u ≡ t → Wrote a c s u x
-wrote_kept {a = a} {b = b} {c = c} {x = x} w k same = record { appends = appends_keeps a b c x w.appends k; settles = same ∙ w.settles }
+pub wrote_kept : {O : Type 0} {a b c : SinkState O} {x : List ℕ} → Wrote a b x → Keeps (gained b) (gained c) → settled c ≡ settled b → GoesOn b c → Wrote a c x
+wrote_kept {a = a} {b = b} {c = c} {x = x} w k same on = record { appends = appends_keeps (gained a) (gained b) (gained c) x w.appends k; settles = same ∙ w.settles; goes_on = goes_on_then a b c w.goes_on on }
 
 -- A longer front of the piece was written.
-pub wrote_more : {a b c : Option (List ℕ)} {s t u : Option Bool} (piece : List ℕ) (sent n : ℕ) → Wrote a b s t (take sent piece) → Wrote b c t u (take n (drop sent piece)) → Wrote a c s u (take (sent + n) piece)
-wrote_more {a = a} {c = c} {s = s} {u = u} piece sent n w v = subst (λ (l : List ℕ). Wrote a c s u l) (sym (take-add sent n piece)) (wrote_then w v)
+pub wrote_more : {O : Type 0} {a b c : SinkState O} (piece : List ℕ) (sent n : ℕ) → Wrote a b (take sent piece) → Wrote b c (take n (drop sent piece)) → Wrote a c (take (sent + n) piece)
+wrote_more {a = a} {c = c} piece sent n w v = subst (λ (l : List ℕ). Wrote a c l) (sym (take-add sent n piece)) (wrote_then w v)
 
 -- what a write that succeeds has written
-pub wrote_front : {a b : Option (List ℕ)} {s t : Option Bool} (bytes piece : List ℕ) (n : ℕ) → n ≤ length piece → piece ≡ bytes → Appends a b (take n piece) → t ≡ settled_after n s → Wrote a b s t (take n bytes)
-wrote_front {a = a} {b = b} {s = s} bytes piece n within is added settles = rw (← is) record {
+pub wrote_front : {O : Type 0} {a b : SinkState O} (bytes piece : List ℕ) (n : ℕ) → n ≤ length piece → piece ≡ bytes → Appends (gained a) (gained b) (take n piece) → settled b ≡ settled_after n (settled a) → GoesOn a b → Wrote a b (take n bytes)
+wrote_front {a = a} {b = b} bytes piece n within is added settles on = rw (← is) record {
   appends = added;
-  settles = settles ∙ ap (λ k. settled_after k s) (omega (arith, within, length-take n piece));
+  settles = settles ∙ ap (λ k. settled_after k (settled a)) (omega (arith, within, length-take n piece));
+  goes_on = on;
 }
+
+-- What was written was gained.
+pub wrote_gains : {O : Type 0} {a b : SinkState O} {bytes : List ℕ} → Wrote a b bytes → Gains a b
+wrote_gains {bytes = bytes} w = record { bytes = bytes; appends = w.appends; goes_on = w.goes_on }

@@ -16,3 +16,8 @@ cell_of (Piece p) = Some p.now
 abbrev pub frame : Cell → List ℕ
 frame None = to_be_bytes w32 4294967295
 frame (Some p) = to_be_bytes w32 (length p) ++ p
+
+-- how many bytes a cell has, 0 for a null
+abbrev pub size_of : Cell → ℕ
+size_of None = 0
+size_of (Some p) = length p

@@ -1,4 +1,5 @@
 pub mod Cell
 pub mod Memory
 pub mod Outside
+pub mod Reading
 pub mod Room

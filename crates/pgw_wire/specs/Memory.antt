@@ -3,51 +3,59 @@ use Rattle.std.specs.Prelude.{ℕ, ◌-◌, ◌^◌, ◌==◌, Bool, List, lengt
 use Rattle.std.specs.List.{list_any}
 use Rattle.pgw_wire.specs.Outside.{counted}
 
--- which of its calls fail, at most how many bytes each call that succeeds moves, and how many calls there were
-pub record Course : Type 0 where
-  pub cuts : List ℕ
+-- the numbers of the calls that fail, counted from 0, how many calls there were, and how many of them failed
+pub record Calls : Type 0 where
   pub fails : List ℕ
   pub calls : ℕ
-  pub successes : ℕ
   pub faults : ℕ
 
 -- before any call
-abbrev pub course_of : List ℕ → List ℕ → Course
-course_of cuts fails = record { cuts = cuts; fails = fails; calls = 0; successes = 0; faults = 0 }
+abbrev pub no_calls : List ℕ → Calls
+no_calls fails = record { fails = fails; calls = 0; faults = 0 }
 
 -- whether the next call is one of those that fail
-abbrev pub is_failing : Course → Bool
+abbrev pub is_failing : Calls → Bool
 is_failing c = list_any (λ k. k == c.calls) c.fails
 
--- At most how many bytes the next call moves: its cut, where 0 counts as 1. Behind the list there is no bound.
-abbrev pub limit_of : Course → ℕ
-limit_of c = max 1 (unwrap_or (slice_get c.cuts c.successes) (2 ^ 64 - 1))
+abbrev pub succeeded : Calls → Calls
+succeeded c = record c { calls = counted c.calls }
 
-abbrev pub succeeded : Course → Course
-succeeded c = record c { calls = counted c.calls; successes = counted c.successes }
-
-abbrev pub failed : Course → Course
+abbrev pub failed : Calls → Calls
 failed c = record c { calls = counted c.calls; faults = counted c.faults }
+
+-- at most how many bytes each call that succeeds moves, and how many succeeded
+pub record Cuts : Type 0 where
+  pub most : List ℕ
+  pub successes : ℕ
+
+-- At most how many bytes the next call moves: its cut, where 0 counts as 1. Behind the list there is no bound.
+abbrev pub limit_of : Cuts → ℕ
+limit_of c = max 1 (unwrap_or (slice_get c.most c.successes) (2 ^ 64 - 1))
+
+abbrev pub next_cut : Cuts → Cuts
+next_cut c = record c { successes = counted c.successes }
 
 -- a source's bytes, and how many of them were taken
 pub record Reading : Type 0 where
   pub bytes : List ℕ
   pub taken : ℕ
-  pub course : Course
+  pub calls : Calls
+  pub cuts : Cuts
 
 abbrev pub left_of : Reading → List ℕ
 left_of r = drop r.taken r.bytes
 
 -- how many bytes a read into a buffer of this length gives
 abbrev pub given : ℕ → Reading → ℕ
-given room r = min (min (length (left_of r)) room) (limit_of r.course)
+given room r = min (min (length (left_of r)) room) (limit_of r.cuts)
 
 -- what a sink has gained, and whether that is settled
 pub record Writing : Type 0 where
-  pub gained : List ℕ
+  pub bytes : List ℕ
   pub settled : Bool
-  pub course : Course
+  pub calls : Calls
+  pub cuts : Cuts
 
 -- how many bytes of a piece a write takes
 abbrev pub accepted : List ℕ → Writing → ℕ
-accepted piece w = min (length piece) (limit_of w.course)
+accepted piece w = min (length piece) (limit_of w.cuts)

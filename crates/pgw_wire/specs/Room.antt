@@ -8,7 +8,9 @@ pub record Room : Type 0 where
   pub spare : ℕ
 
 abbrev pub room_code : Coded Room
-room_code = code_by (List ℕ × ℕ) (coded× (coded_list coded_ℕ) coded_ℕ) (λ r. (r.bytes, r.spare)) (λ p. record { bytes = p.0; spare = p.1 }) (λ _. refl)
+room_code =
+    code_by (List ℕ × ℕ) (coded× (coded_list coded_ℕ) coded_ℕ) (λ r. (r.bytes, r.spare))
+    (λ p. record { bytes = p.0; spare = p.1 }) (λ _. refl)
 
 -- the bytes from a place on are these, and all others are as before
 abbrev pub overwritten : List ℕ → ℕ → List ℕ → List ℕ

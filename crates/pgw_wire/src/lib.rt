@@ -4,6 +4,7 @@
 #![tactic(auto)]
 
 mod buffer;
+mod calls;
 mod cell;
 mod cuts;
 mod error;
@@ -15,6 +16,7 @@ mod quiet;
 mod sending;
 
 pub use buffer::ByteBuffer;
+pub use calls::FailingCalls;
 pub use cell::RawCell;
 pub use cuts::{take_i16, take_i32, take_i64, take_piece, take_u8, take_u16, take_u32, take_u64};
 pub use error::{Failed, NoMemory};

@@ -1,20 +1,21 @@
 ghost use Rattle.std.specs.Prelude.{◌≡◌, ◌+◌, ◌-◌, ◌^◌, ◌≤◌, ◌==◌, ◌++◌, [], true, false, Some, None, Ok, Err, IfOk, IsOk, OnOk, OnErr, length, min, take, drop, if◌then◌else◌};
-ghost use Rattle.pgw_wire.specs.Memory.{course_of, is_failing, limit_of, succeeded, failed, left_of, given, accepted};
+ghost use Rattle.pgw_wire.specs.Memory.{no_calls, is_failing, succeeded, failed, limit_of, next_cut, left_of, given, accepted};
 ghost use Rattle.pgw_wire.specs.Outside.{settled_after};
 
-use crate::{Failed, Sink, Source};
-use course::Course;
+use crate::{Failed, FailingCalls, Sink, Source};
+use cuts::Cuts;
 use std::alloc::Global;
 use std::marker::Model;
 
-mod course;
+mod cuts;
 
 /// A source of bytes in memory, for tests: which of its calls fail and how it cuts its answers is given.
 #[derive(Drop)]
 pub struct MemorySource {
     bytes: Vec<u8>,
     taken: usize,
-    course: Course,
+    calls: FailingCalls,
+    cuts: Cuts,
 }
 
 impl Model for MemorySource {
@@ -23,7 +24,7 @@ impl Model for MemorySource {
 
     ghost Value = { Reading };
 
-    ghost view = { λ s. record { bytes = s.bytes.items; taken = s.taken; course = s.course } };
+    ghost view = { λ s. record { bytes = s.bytes.items; taken = s.taken; calls = s.calls; cuts = s.cuts } };
 
     ghost invariant = { λ s. s.taken ≤ vec_len s.bytes };
 }
@@ -33,12 +34,18 @@ impl MemorySource {
     /// read that is the i-th to succeed gives at most `cuts[i]` bytes, where 0 counts as 1, and behind the list as
     /// many as there is room for.
     pub fn new(bytes: Vec<u8>, cuts: Vec<usize>, fails: Vec<u64>) -> MemorySource
-        ensures { result ≡ record { bytes = bytes.items; taken = 0; course = course_of cuts.items fails.items } }
+        ensures { result ≡ record {
+          bytes = bytes.items;
+          taken = 0;
+          calls = no_calls fails.items;
+          cuts = record { most = cuts.items; successes = 0 };
+        } }
     {
         MemorySource {
             bytes,
             taken: 0,
-            course: Course::new(cuts, fails),
+            calls: FailingCalls::new(fails),
+            cuts: Cuts::new(cuts),
         }
     }
 
@@ -63,31 +70,32 @@ pub(crate) fn copy_front(bytes: &[u8], buf: &mut [u8], limit: usize) -> usize
 }
 
 impl Source for MemorySource {
-    ghost left = { λ s. Some (left_of s) };
-
-    ghost fault_count = { λ s. s.course.faults };
-
-    ghost origin = { λ _. tt };
+    ghost state = { λ s. record { told = Some (left_of s); fault_count = s.calls.faults; origin = tt } };
 
     #[tactic(auto, using(std::proofs::lemmas::Grind::common_steps, crate::proofs::Lists::drop_more))]
     fn read(&mut self, buf: &mut [u8]) -> Result<usize, Failed>
-        ensures answer { result ≡ (if is_failing self.old.course then Err (record {}) else Ok (given (length buf.old) self.old)) }
-        ensures ok { IfOk result (λ n. self.new ≡ record { bytes = self.old.bytes; taken = self.old.taken + n; course = succeeded self.old.course }) }
+        ensures answer { result ≡ (if is_failing self.old.calls then Err (record {}) else Ok (given (length buf.old) self.old)) }
+        ensures ok { IfOk result (λ n. self.new ≡ record {
+          bytes = self.old.bytes;
+          taken = self.old.taken + n;
+          calls = succeeded self.old.calls;
+          cuts = next_cut self.old.cuts;
+        }) }
         ensures filled { IfOk result (λ n. buf.new ≡ take n (left_of self.old) ++ drop n buf.old) }
-        ensures err { OnErr result (self.new ≡ record self.old { course = failed self.old.course }) }
+        ensures err { OnErr result (self.new ≡ record self.old { calls = failed self.old.calls }) }
         ensures buffer_kept { OnErr result (buf.new ≡ buf.old) }
         ensures taken { IfOk result (λ n. left_of self.old ≡ take n buf.new ++ left_of self.new) }
-        ensures faults { self.old.course.faults ≤ self.new.course.faults }
+        ensures faults { self.old.calls.faults ≤ self.new.calls.faults }
     {
-        let limit = self.course.begin()?;
-        let len = copy_front(&self.bytes[self.taken..], buf, limit);
+        self.calls.call()?;
+        let len = copy_front(&self.bytes[self.taken..], buf, self.cuts.limit());
         self.taken += len;
-        self.course.succeed();
+        self.cuts.advance();
         Ok(len)
     }
 
     fn faults(&self) -> u64 {
-        self.course.faults()
+        self.calls.faults()
     }
 }
 
@@ -97,7 +105,8 @@ impl Source for MemorySource {
 pub struct MemorySink {
     gained: Vec<u8>,
     settled: bool,
-    course: Course,
+    calls: FailingCalls,
+    cuts: Cuts,
 }
 
 impl Model for MemorySink {
@@ -105,60 +114,66 @@ impl Model for MemorySink {
 
     ghost Value = { Writing };
 
-    ghost view = { λ s. record { gained = s.gained.items; settled = s.settled; course = s.course } };
+    ghost view = { λ s. record { bytes = s.gained.items; settled = s.settled; calls = s.calls; cuts = s.cuts } };
 }
 
 impl MemorySink {
     /// A sink that has gained nothing and is settled. Its call with number k, counted from 0 over writes and
-    /// flushes, fails where k is in `fails`, and else only as a write that is refused memory. The call that is the i-th to succeed takes, where it is a
-    /// write, at most `cuts[i]` bytes, where 0 counts as 1, and behind the list the whole piece.
+    /// flushes, fails where k is in `fails`, and else only as a write that is refused memory. The call that is the
+    /// i-th to succeed takes, where it is a write, at most `cuts[i]` bytes, where 0 counts as 1, and behind the list
+    /// the whole piece.
     pub fn new(alloc: Global, cuts: Vec<usize>, fails: Vec<u64>) -> MemorySink
-        ensures { result ≡ record { gained = []; settled = true; course = course_of cuts.items fails.items } }
+        ensures { result ≡ record {
+          bytes = [];
+          settled = true;
+          calls = no_calls fails.items;
+          cuts = record { most = cuts.items; successes = 0 };
+        } }
     {
         MemorySink {
             gained: Vec::new(alloc),
             settled: true,
-            course: Course::new(cuts, fails),
+            calls: FailingCalls::new(fails),
+            cuts: Cuts::new(cuts),
         }
     }
 
     /// All bytes that it has gained.
     pub fn gained(&self) -> &[u8]
-        ensures { result.now ≡ self.now.gained }
+        ensures { result.now ≡ self.now.bytes }
     {
         &self.gained
     }
 }
 
 impl Sink for MemorySink {
-    ghost gained = { λ s. Some s.gained };
-
-    ghost settled = { λ s. Some s.settled };
-
-    ghost fault_count = { λ s. s.course.faults };
-
-    ghost origin = { λ _. tt };
+    ghost state = { λ s. record {
+      told = record { bytes = Some s.bytes; settled = Some s.settled };
+      fault_count = s.calls.faults;
+      origin = tt;
+    } };
 
     /// Where memory for the bytes is refused, that is a fault of this sink.
     fn write(&mut self, piece: &[u8]) -> Result<usize, Failed>
         ensures answer { IfOk result (λ n. n ≡ accepted piece.now self.old) }
-        ensures failing { is_failing self.old.course ≡ true → result ≡ Err (record {}) }
-        ensures empty { is_failing self.old.course ≡ false → piece.now ≡ [] → IsOk result }
+        ensures failing { is_failing self.old.calls ≡ true → result ≡ Err (record {}) }
+        ensures empty { is_failing self.old.calls ≡ false → piece.now ≡ [] → IsOk result }
         ensures ok { IfOk result (λ n. self.new ≡ record {
-          gained = self.old.gained ++ take n piece.now;
+          bytes = self.old.bytes ++ take n piece.now;
           settled = (if n == 0 then self.old.settled else false);
-          course = succeeded self.old.course;
+          calls = succeeded self.old.calls;
+          cuts = next_cut self.old.cuts;
         }) }
-        ensures err { OnErr result (self.new ≡ record self.old { course = failed self.old.course }) }
-        ensures faults { self.old.course.faults ≤ self.new.course.faults }
+        ensures err { OnErr result (self.new ≡ record self.old { calls = failed self.old.calls }) }
+        ensures faults { self.old.calls.faults ≤ self.new.calls.faults }
     {
-        let limit = self.course.begin()?;
-        let len = piece.len().min(limit);
+        self.calls.call()?;
+        let len = piece.len().min(self.cuts.limit());
         if self.gained.extend_from_slice(&piece[..len]).is_err() {
-            self.course.fail();
+            self.calls.fail();
             return Err(Failed);
         }
-        self.course.succeed();
+        self.cuts.advance();
         if len > 0 {
             self.settled = false;
         }
@@ -166,22 +181,23 @@ impl Sink for MemorySink {
     }
 
     fn flush(&mut self) -> Result<(), Failed>
-        ensures answer { result ≡ (if is_failing self.old.course then Err (record {}) else Ok tt) }
+        ensures answer { result ≡ (if is_failing self.old.calls then Err (record {}) else Ok tt) }
         ensures ok { OnOk result (self.new ≡ record {
-          gained = self.old.gained;
+          bytes = self.old.bytes;
           settled = true;
-          course = succeeded self.old.course;
+          calls = succeeded self.old.calls;
+          cuts = next_cut self.old.cuts;
         }) }
-        ensures err { OnErr result (self.new ≡ record self.old { course = failed self.old.course }) }
-        ensures faults { self.old.course.faults ≤ self.new.course.faults }
+        ensures err { OnErr result (self.new ≡ record self.old { calls = failed self.old.calls }) }
+        ensures faults { self.old.calls.faults ≤ self.new.calls.faults }
     {
-        self.course.begin()?;
-        self.course.succeed();
+        self.calls.call()?;
+        self.cuts.advance();
         self.settled = true;
         Ok(())
     }
 
     fn faults(&self) -> u64 {
-        self.course.faults()
+        self.calls.faults()
     }
 }

@@ -1,53 +1,47 @@
-ghost use Rattle.std.specs.Prelude.{◌≡◌, ℕ, ◌+◌, ◌<◌, ◌≤◌, Bool, true, false, Ok, List, length, take, drop, Option, option_map, Result, IfOk, OnOk, OnErr};
+ghost use Rattle.std.specs.Prelude.{◌≡◌, ℕ, ◌+◌, ◌<◌, ◌≤◌, Bool, true, false, Ok, List, length, take, drop, option_map, Result, IfOk, OnOk, OnErr};
 ghost use Rattle.std.specs.Io.KnownBytes.{Appends, Consumes, IsAtEnd, Keeps};
-ghost use Rattle.pgw_wire.specs.Outside.{HasFailed, TookReady, settled_after};
+ghost use Rattle.pgw_wire.specs.Outside.{SourceState, SinkState, left, gained, settled, HasFailed, GoesOn, TookReady, settled_after};
 
 use crate::Failed;
 
 /// Where bytes come from.
 pub trait Source {
-    /// The bytes still to come, where it tells them.
-    ghost left: { Self → Option (List ℕ) };
-
-    /// How many of its calls failed. The count stops at the largest `u64`.
-    ghost fault_count: { Self → ℕ };
-
     /// What says on which object it stands: for a wrapper over an object that was lent to it, which object, what
     /// that had left and its count when the wrapper was made. Where it stands on nothing else it says nothing.
     ghost Origin: { Type 0 } = { Unit {0} };
 
-    ghost origin: { Self → Origin };
+    /// What is told of it: the bytes still to come, where it tells them; how many of its calls failed, a count that stops
+    /// at the largest `u64`; and on which object it stands.
+    ghost state: { Self → SourceState Origin };
 
     /// Reads some of the bytes to the front of `buf`, and answers how many. It answers 0 only at the end or where
     /// `buf` is empty. `Failed` comes only where the count of faults rises, and leaves the bytes and `buf`.
     fn read(&mut self, buf: &mut [u8]) -> Result<usize, Failed>
         ensures within { IfOk result (λ n. n ≤ length buf.old) }
-        ensures taken { IfOk result (λ n. Consumes (left self.old) (left self.new) (take n buf.new)) }
+        ensures taken { IfOk result (λ n. Consumes (left (state self.old)) (left (state self.new)) (take n buf.new)) }
         ensures rest { IfOk result (λ n. drop n buf.new ≡ drop n buf.old) }
-        ensures end { result ≡ Ok 0 → 0 < length buf.old → IsAtEnd (left self.new) }
-        ensures err { OnErr result (Keeps (left self.old) (left self.new)) }
+        ensures end { result ≡ Ok 0 → 0 < length buf.old → IsAtEnd (left (state self.new)) }
+        ensures err { OnErr result (Keeps (left (state self.old)) (left (state self.new))) }
         ensures buffer_kept { OnErr result (buf.new ≡ buf.old) }
-        ensures failed { OnErr result (HasFailed (fault_count self.old) (fault_count self.new)) }
-        ensures faults { fault_count self.old ≤ fault_count self.new }
-        ensures origin { origin self.new ≡ origin self.old };
+        ensures failed { OnErr result (HasFailed (state self.old) (state self.new)) }
+        ensures goes_on { GoesOn (state self.old) (state self.new) };
 
     /// How many calls failed so far.
     fn faults(&self) -> u64
-        ensures { result ≡ fault_count self.now };
+        ensures { result ≡ (state self.now).fault_count };
 
     /// Shows the taker bytes that stand ready in front of what is left, and takes as many of them as it answers. They may be
     /// fewer than are left, or none. A source that has none at hand may answer false, as the one here does, and then what is
     /// left, the taker and `to` are as before. `Failed` comes only where the count of faults rises, and leaves these too.
     fn show<K, T: Taker<K>>(&mut self, taker: &mut T, to: &mut K) -> Result<bool, Failed>
         ensures shown { result ≡ Ok true → (ready : List ℕ) × (n : ℕ)
-            × TookReady (left self.old) (left self.new) ready n
+            × TookReady (left (state self.old)) (left (state self.new)) ready n
             × T.takes taker.old to.old ready n taker.new to.new }
         ensures none { result ≡ Ok false
-            → Keeps (left self.old) (left self.new) × (taker.new ≡ taker.old) × (to.new ≡ to.old) }
-        ensures err { OnErr result (Keeps (left self.old) (left self.new) × (taker.new ≡ taker.old) × (to.new ≡ to.old)) }
-        ensures failed { OnErr result (HasFailed (fault_count self.old) (fault_count self.new)) }
-        ensures faults { fault_count self.old ≤ fault_count self.new }
-        ensures origin { origin self.new ≡ origin self.old }
+            → Keeps (left (state self.old)) (left (state self.new)) × (taker.new ≡ taker.old) × (to.new ≡ to.old) }
+        ensures err { OnErr result (Keeps (left (state self.old)) (left (state self.new)) × (taker.new ≡ taker.old) × (to.new ≡ to.old)) }
+        ensures failed { OnErr result (HasFailed (state self.old) (state self.new)) }
+        ensures goes_on { GoesOn (state self.old) (state self.new) }
     {
         Ok(false)
     }
@@ -67,43 +61,34 @@ pub trait Taker<K> {
 
 /// Where bytes go.
 pub trait Sink {
-    /// The bytes that it got, where it tells them.
-    ghost gained: { Self → Option (List ℕ) };
-
-    /// Whether all that it got is settled, where it tells that: true behind a flush, false behind a byte.
-    ghost settled: { Self → Option Bool };
-
-    /// How many of its calls failed. The count stops at the largest `u64`.
-    ghost fault_count: { Self → ℕ };
-
     /// As for a source, with what the lent object had gained.
     ghost Origin: { Type 0 } = { Unit {0} };
 
-    ghost origin: { Self → Origin };
+    /// What is told of it: the bytes that it got, where it tells them; whether all that it got is settled, where it tells
+    /// that, true behind a flush, false behind a byte; how many of its calls failed; and on which object it stands.
+    ghost state: { Self → SinkState Origin };
 
     /// Takes the front of the piece, one byte at least, and answers how many bytes it took. Of an empty piece it
     /// takes none. `Failed` comes only where the count of faults rises, and nothing was taken then.
     fn write(&mut self, piece: &[u8]) -> Result<usize, Failed>
         ensures within { IfOk result (λ n. n ≤ length piece.now) }
         ensures progress { 0 < length piece.now → IfOk result (λ n. 0 < n) }
-        ensures gained { IfOk result (λ n. Appends (gained self.old) (gained self.new) (take n piece.now)) }
-        ensures settled { IfOk result (λ n. settled self.new ≡ settled_after n (settled self.old)) }
-        ensures err { OnErr result (Keeps (gained self.old) (gained self.new)) }
-        ensures settled_kept { OnErr result (settled self.new ≡ settled self.old) }
-        ensures failed { OnErr result (HasFailed (fault_count self.old) (fault_count self.new)) }
-        ensures faults { fault_count self.old ≤ fault_count self.new }
-        ensures origin { origin self.new ≡ origin self.old };
+        ensures gained { IfOk result (λ n. Appends (gained (state self.old)) (gained (state self.new)) (take n piece.now)) }
+        ensures settled { IfOk result (λ n. settled (state self.new) ≡ settled_after n (settled (state self.old))) }
+        ensures err { OnErr result (Keeps (gained (state self.old)) (gained (state self.new))) }
+        ensures settled_kept { OnErr result (settled (state self.new) ≡ settled (state self.old)) }
+        ensures failed { OnErr result (HasFailed (state self.old) (state self.new)) }
+        ensures goes_on { GoesOn (state self.old) (state self.new) };
 
     /// Settles what it got. `Failed` comes only where the count of faults rises, and leaves it as it was.
     fn flush(&mut self) -> Result<(), Failed>
-        ensures gained { Keeps (gained self.old) (gained self.new) }
-        ensures ok { OnOk result (settled self.new ≡ option_map (λ _. true) (settled self.old)) }
-        ensures err { OnErr result (settled self.new ≡ settled self.old) }
-        ensures failed { OnErr result (HasFailed (fault_count self.old) (fault_count self.new)) }
-        ensures faults { fault_count self.old ≤ fault_count self.new }
-        ensures origin { origin self.new ≡ origin self.old };
+        ensures gained { Keeps (gained (state self.old)) (gained (state self.new)) }
+        ensures ok { OnOk result (settled (state self.new) ≡ option_map (λ _. true) (settled (state self.old))) }
+        ensures err { OnErr result (settled (state self.new) ≡ settled (state self.old)) }
+        ensures failed { OnErr result (HasFailed (state self.old) (state self.new)) }
+        ensures goes_on { GoesOn (state self.old) (state self.new) };
 
     /// How many calls failed so far.
     fn faults(&self) -> u64
-        ensures { result ≡ fault_count self.now };
+        ensures { result ≡ (state self.now).fault_count };
 }

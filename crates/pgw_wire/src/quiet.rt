@@ -32,11 +32,7 @@ impl QuietSource {
 }
 
 impl Source for QuietSource {
-    ghost left = { λ s. Some s };
-
-    ghost fault_count = { λ _. 0 };
-
-    ghost origin = { λ _. tt };
+    ghost state = { λ s. record { told = Some s; fault_count = 0; origin = tt } };
 
     #[tactic(auto, using(std::proofs::lemmas::Grind::common_steps, crate::proofs::Lists::drop_more))]
     fn read(&mut self, buf: &mut [u8]) -> Result<usize, Failed>
@@ -92,13 +88,7 @@ impl QuietSink {
 }
 
 impl Sink for QuietSink {
-    ghost gained = { λ _. None };
-
-    ghost settled = { λ _. None };
-
-    ghost fault_count = { λ _. 0 };
-
-    ghost origin = { λ _. tt };
+    ghost state = { λ _. record { told = record { bytes = None; settled = None }; fault_count = 0; origin = tt } };
 
     fn write(&mut self, piece: &[u8]) -> Result<usize, Failed>
         ensures answer { result ≡ Ok (length piece.now) }

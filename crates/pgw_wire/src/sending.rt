@@ -1,4 +1,4 @@
-ghost use Rattle.std.specs.Prelude.{◌≡◌, ◌<◌, ◌≤◌, length, take};
+ghost use Rattle.std.specs.Prelude.{◌<◌, ◌≤◌, length, take};
 ghost use Rattle.pgw_wire.specs.Outside.{HasFailed, Wrote};
 
 use crate::Sink;
@@ -7,10 +7,8 @@ use crate::Sink;
 /// fewer where the sink failed behind these.
 pub fn send<K: Sink>(sink: &mut K, piece: &[u8]) -> usize
     ensures within { result ≤ length piece.now }
-    ensures wrote { Wrote (K.gained sink.old) (K.gained sink.new) (K.settled sink.old) (K.settled sink.new) (take result piece.now) }
-    ensures failed { result < length piece.now → HasFailed (K.fault_count sink.old) (K.fault_count sink.new) }
-    ensures faults { K.fault_count sink.old ≤ K.fault_count sink.new }
-    ensures origin { K.origin sink.new ≡ K.origin sink.old }
+    ensures wrote { Wrote (K.state sink.old) (K.state sink.new) (take result piece.now) }
+    ensures failed { result < length piece.now → HasFailed (K.state sink.old) (K.state sink.new) }
 {
     let mut sent = 0;
     while sent < piece.len() {

@@ -1,13 +1,8 @@
 use Rattle.std.proofs.Common.{◌≡◌, ℕ, false, List, [], ◌∷◌, length, get_or, refl, sym, ap, ◌∙◌, arith}
 use Rattle.std.specs.Prelude.{String, string_bytes, codes}
-use Rattle.std.specs.Str.{bytes_eq}
-use Rattle.std.proofs.lemmas.Slice.Eq.{bytes_eq-Decides}
-use Rattle.std.proofs.lemmas.Bool.{false_from_ne_true}
 use Rattle.pgcopy.specs.Words.{asks_about}
+use Rattle.pgcopy.proofs.TypeNames.{differs}
 use Rattle.pgcopy.proofs.about.asked.Goals as goal
-
-differs : (xs ys : List ℕ) → (xs ≡ ys → ⊥) → bytes_eq xs ys ≡ false
-differs xs ys other = false_from_ne_true (bytes_eq xs ys) (λ e. other ((bytes_eq-Decides xs ys).0 e))
 
 -- A word that is none of the three asks for nothing.
 asks_not : {A : Type 0} (words : List (String A)) (word : String A) (text : List ℕ) → length words ≡ 1 → word ≡ get_or words 0 word → text ≡ string_bytes word

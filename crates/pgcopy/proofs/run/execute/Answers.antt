@@ -1,7 +1,7 @@
 use Rattle.std.proofs.Common.{Err, refl, ap, ◌∙◌, inr}
 use Rattle.std.proofs.lemmas.Bool.{false≢true}
 use Rattle.pgw_tree.specs.declared.fault.CopyFault.TheVariants.{NoMemory}
-use Rattle.pgcopy.proofs.Told.{ok_and, status_at_fault, refused_at_fault, no_memory_at_first}
+use Rattle.pgcopy.proofs.Told.{ok_and, status_at_fault, refused_at_fault, no_memory_met}
 use Rattle.pgcopy.proofs.run.execute.Goals as goal
 
 pub returns-in-Ok-recopy_first-clause-copied : goal.returns-in-Ok-recopy_first-clause-copied
@@ -13,10 +13,12 @@ returns-in-Ok-clause-fault g c =
     rw c.in-Ok.ensures.plan (λ _ _. (
       c.in-Err.fault,
       refl,
-      simp c.as_slice.ensures at c.recopy_first.ensures.fault c.in-Err.fault c.in-Err.is,
-      (λ e. c.recopy_first.ensures.truncated (c.in-Err.is ∙ ap Err e)),
-      (λ e. c.recopy_first.ensures.read_fault (c.in-Err.is ∙ ap Err e)),
-      (λ e. c.recopy_first.ensures.write_fault (c.in-Err.is ∙ ap Err e)),
+      record {
+        says = simp c.as_slice.ensures at c.recopy_first.ensures.fault c.in-Err.fault c.in-Err.is;
+        at_end = λ e. c.recopy_first.ensures.truncated (c.in-Err.is ∙ ap Err e);
+        source_failed = λ e. c.recopy_first.ensures.read_fault (c.in-Err.is ∙ ap Err e);
+        sink_failed = λ e. c.recopy_first.ensures.write_fault (c.in-Err.is ∙ ap Err e);
+      },
     ))
 
 pub returns-in-Ok-clause-complete : goal.returns-in-Ok-clause-complete
@@ -34,11 +36,4 @@ returns-in-Ok-clause-refused g c =
     refused_at_fault c.in-Err.fault (λ e. c.recopy_first.ensures.read_fault (c.in-Err.is ∙ ap Err e)) (λ e. c.recopy_first.ensures.write_fault (c.in-Err.is ∙ ap Err e)) reads writes)
 
 pub returns-clause-fault : goal.returns-clause-fault
-returns-clause-fault g c = λ _ _. ok_and _ _ (c.read_words.ensures.no_memory (cc)) (λ plan. (
-  NoMemory,
-  refl,
-  no_memory_at_first plan.limits plan.columns _ _ _,
-  (λ e. absurd (cc)),
-  (λ e. absurd (cc)),
-  (λ e. absurd (cc)),
-))
+returns-clause-fault g c = λ _ _. ok_and _ _ (c.read_words.ensures.no_memory (cc)) (λ plan. (NoMemory, refl, no_memory_met plan _ _))

@@ -1,19 +1,54 @@
-use Rattle.std.proofs.Common.{ap, ◌∙◌, subst}
+use Rattle.std.proofs.Common.{ap, ◌∙◌, subst, sym}
+use Rattle.std.proofs.lemmas.Result.{IfErr-weaker}
 use Rattle.pgcopy.specs.declared.report.Outcome.{Outcome}
 use Rattle.pgcopy.specs.Words.{plan_of}
-use Rattle.pgcopy.specs.Report.{line_of, status_of, GainsUnlessFailed}
-use Rattle.pgcopy.proofs.Told.{ok_and_map}
+use Rattle.pgcopy.specs.Report.{line_of, status_of, WroteUnlessFailed}
+use Rattle.pgcopy.proofs.Plans.{no_plan, with_plan, for_plan, for_fault, for_no_plan}
+use Rattle.pgcopy.proofs.Sending.{line_gained}
 use Rattle.pgcopy.proofs.run.run.Goals as goal
 
 pub returns-clause-fault : goal.returns-clause-fault
 returns-clause-fault g c = λ not_copied not_words.
-    ok_and_map (plan_of c.args.words.now) _ _ (λ plan h. (
+    let h = with_plan c.args.words.now _ (c.execute-outcome.ensures.fault (λ e. not_copied (c.status.ensures ∙ e)) (λ e. not_words (c.status.ensures ∙ e))) in (
       h.0,
-      c.status.ensures ∙ ap status_of h.1,
-      subst (λ (o : Outcome). GainsUnlessFailed g.N.Sink.gained g.N.Sink.fault_count c.args.notes.now c.report.new.notes (line_of o)) h.1 c.report.ensures.line,
-      h.2,
-      h.3,
-      h.4,
-      h.5,
-    ))
-    (c.execute-outcome.ensures.fault (λ e. not_copied (c.status.ensures ∙ e)) (λ e. not_words (c.status.ensures ∙ e)))
+      h.1,
+      h.2.0,
+      c.status.ensures ∙ ap status_of h.2.1,
+      subst (λ (o : Outcome). WroteUnlessFailed (g.N.Sink.state c.args.notes.now) (g.N.Sink.state c.report.new.notes) (line_of o)) h.2.1 c.report.ensures.line,
+      h.2.2,
+    )
+
+pub returns-clause-copied : goal.returns-clause-copied
+returns-clause-copied g c = λ copied.
+    let h = with_plan c.args.words.now _ (c.execute-outcome.ensures.copied (sym c.status.ensures ∙ copied)) in (
+      h.0,
+      h.1,
+      h.2.0,
+      subst (λ (o : Outcome). WroteUnlessFailed (g.N.Sink.state c.args.notes.now) (g.N.Sink.state c.report.new.notes) (line_of o)) h.2.1 c.report.ensures.line,
+      h.2.2,
+    )
+
+pub returns-clause-words_line : goal.returns-clause-words_line
+returns-clause-words_line g c =
+    for_fault c.args.words.now _ (IfErr-weaker (plan_of c.args.words.now) _ _ (λ f is. subst (λ (o : Outcome). WroteUnlessFailed (g.N.Sink.state c.args.notes.now) (g.N.Sink.state c.report.new.notes) (line_of o)) is c.report.ensures.line) c.execute-outcome.ensures.bad_word)
+
+pub returns-clause-source_untouched : goal.returns-clause-source_untouched
+returns-clause-source_untouched g c = for_no_plan c.args.words.now _ c.execute-outcome.ensures.source_untouched
+
+pub returns-clause-sink_untouched : goal.returns-clause-sink_untouched
+returns-clause-sink_untouched g c = for_no_plan c.args.words.now _ c.execute-outcome.ensures.sink_untouched
+
+pub returns-clause-noted : goal.returns-clause-noted
+returns-clause-noted g c = line_gained c.report.ensures.line
+
+pub returns-clause-words : goal.returns-clause-words
+returns-clause-words g c = (
+  (λ is. (no_plan c.args.words.now).0 (c.execute-outcome.ensures.words (sym c.status.ensures ∙ is))),
+  (λ none. c.status.ensures ∙ for_no_plan c.args.words.now _ (IfErr-weaker (plan_of c.args.words.now) _ _ (λ f e. ap status_of e) c.execute-outcome.ensures.bad_word) none),
+)
+
+pub returns-clause-complete : goal.returns-clause-complete
+returns-clause-complete g c = rw c.status.ensures (for_plan c.args.words.now _ c.execute-outcome.ensures.complete)
+
+pub returns-clause-refused : goal.returns-clause-refused
+returns-clause-refused g c = rw c.status.ensures (for_plan c.args.words.now _ c.execute-outcome.ensures.refused)

@@ -7,10 +7,10 @@ pub returns-in_ok-rows : goal.returns-in_ok-rows
 returns-in_ok-rows c = λ before seen all option.
     let is = sym c.behind.ensures ∙ ap (option_map (λ x. x.now)) c.in-Some.is in
     let given = c.in_ok-rows.ensures ∙ ap (number_of 18446744073709551615 c.in-Some.digits.now) c.is_some.ensures in
-    rows_seen c.args.seen c.in_ok-rows.rows c.args.word.now c.in-Some.digits.now before seen all is given
+    rows_seen c.args.seen c.in_ok-rows.rows c.args.word.now c.in-Some.digits.now before seen all option is given
 
 pub returns-in_ok-field : goal.returns-in_ok-field
 returns-in_ok-field c = λ before seen all option.
     let is = sym c.behind-in_default.ensures ∙ ap (option_map (λ x. x.now)) c.in-Some-behind.is in
     let given = c.in_ok-field.ensures ∙ ap (number_of 2147483647 c.in-Some-behind.digits.now) c.is_some-in-Some-behind.ensures in
-    field_seen c.args.seen c.in_ok-field.field c.args.word.now c.in-Some-behind.digits.now before seen all is given
+    field_seen c.args.seen c.in_ok-field.field c.args.word.now c.in-Some-behind.digits.now before seen all option is given

@@ -5,9 +5,7 @@ use Rattle.pgw_copy.proofs.filling.fill_by_reads.Given as goal
 abbrev pub invariant-loop-filled : goal.invariant-loop-filled
 invariant-loop-filled g l = record {
   within : l.filled ≤ length l.buf;
-  took : Took (g.S.Source.left l.fn.source) (g.S.Source.left l.source) (λ taken. taken ≡ take l.filled l.buf);
-  faults : g.S.Source.fault_count l.fn.source ≤ g.S.Source.fault_count l.source;
-  origin : g.S.Source.origin l.source ≡ g.S.Source.origin l.fn.source;
+  took : Took (g.S.Source.state l.fn.source) (g.S.Source.state l.source) (λ taken. taken ≡ take l.filled l.buf);
 }
 
 abbrev pub decreases-loop-filled : goal.decreases-loop-filled

@@ -4,6 +4,7 @@ use lib.Pointwise.{pointwise}
 use lib.Dec.{eqb}
 use Rattle.std.proofs.lemmas.Bool.Decides.{Decides-eqb}
 use Rattle.std.proofs.lemmas.Slice.Eq.{slice_eq-Decides}
+use Rattle.pgw_copy.specs.Reader.{bad_header, bad_flags}
 use Rattle.pgw_copy.proofs.Headers.{IsApart, fixed_header, other_magic, negative_extension}
 use Rattle.pgw_copy.proofs.header.extension_of.Goals as goal
 use Rattle.pgw_copy.proofs.header.extension_of.Goals.{After-ne}
@@ -39,12 +40,15 @@ other xs ys e same = is_not_true _ e ((slice_eq-Decides Decides-eqb xs ys (point
 
 pub returns-then-ne-clause-err : goal.returns-then-ne-clause-err
 returns-then-ne-clause-err c =
-    (search rules, inl (other_magic _ _ _ _ (apart (goal.at.returns-then-ne-clause-err c).After-ne) (λ same. other _ _ c.if-ne.ensures (same ∙ sym c.as_slice.ensures))))
+    bad_header refl (search rules, inl (other_magic _ _ _ _ (apart (goal.at.returns-then-ne-clause-err c).After-ne) (λ same. other _ _ c.if-ne.ensures (same ∙ sym c.as_slice.ensures))))
 
 pub returns-then-extension-ge-NEGATIVE_LENGTH-clause-err : goal.returns-then-extension-ge-NEGATIVE_LENGTH-clause-err
 returns-then-extension-ge-NEGATIVE_LENGTH-clause-err c =
-    (search rules, inr (negative_extension _ _ _ _ (search rules) (apart (goal.at.returns-then-extension-ge-NEGATIVE_LENGTH-clause-err c).After-ne) (same_magic _ _ c.if-ne.ensures ∙ c.as_slice.ensures) (omega arith) (omega arith)))
+    bad_header refl (search rules, inr (negative_extension _ _ _ _ (search rules) (apart (goal.at.returns-then-extension-ge-NEGATIVE_LENGTH-clause-err c).After-ne) (same_magic _ _ c.if-ne.ensures ∙ c.as_slice.ensures) (omega arith) (omega arith)))
 
 pub returns-else-extension-ge-NEGATIVE_LENGTH-clause-ok : goal.returns-else-extension-ge-NEGATIVE_LENGTH-clause-ok
 returns-else-extension-ge-NEGATIVE_LENGTH-clause-ok c =
     fixed_header _ _ _ _ (search rules) (apart (goal.at.returns-else-extension-ge-NEGATIVE_LENGTH-clause-ok c).After-ne) (same_magic _ _ c.if-ne.ensures ∙ c.as_slice.ensures) (omega arith) (omega arith)
+
+pub returns-then-flags-ge-HIGH_HALF-clause-err : goal.returns-then-flags-ge-HIGH_HALF-clause-err
+returns-then-flags-ge-HIGH_HALF-clause-err c = bad_flags _ refl (search rules)

@@ -1,6 +1,6 @@
 use Rattle.std.proofs.Common.{◌∙◌, sym}
 use Rattle.std.proofs.lemmas.Str.{IsUtf8-from_ascii, is_utf8-from_IsUtf8}
-use Rattle.pgw_tree.proofs.Texts.{ascii_tested}
+use Rattle.pgw_tree.proofs.Text.{ascii_tested}
 use Rattle.pgw_tree.proofs.cells.is_text.Goals as goal
 
 pub returns-then-is_ascii : goal.returns-then-is_ascii

@@ -1,5 +1,5 @@
 use Rattle.std.proofs.Common.{◌∙◌}
-use Rattle.pgw_tree.proofs.Texts.{text_tested}
+use Rattle.pgw_tree.proofs.Text.{text_tested}
 use Rattle.pgw_tree.proofs.cells.is_wide_text.Goals as goal
 
 pub returns : goal.returns

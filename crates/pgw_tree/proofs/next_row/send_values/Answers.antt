@@ -1,40 +1,34 @@
-use Rattle.std.proofs.Common.{◌≡◌, take, drop, sym, ◌∙◌, subst, arith}
+use Rattle.std.proofs.Common.{◌≡◌, take, drop, sym, ◌∙◌, subst, arith, refl, length-drop}
 use Rattle.std.proofs.lemmas.List.{take_all, take-append-drop}
 use Rattle.pgw_wire.specs.Outside.{Wrote}
+use Rattle.pgw_wire.proofs.Taking.{exit}
 use Rattle.pgw_copy.specs.State.{cells_of}
 use Rattle.pgw_tree.specs.Tree.{shapes}
-use Rattle.pgw_tree.proofs.Parts.{fault_exit}
+use Rattle.pgw_tree.specs.Sending.{has_broken}
 use Rattle.pgw_tree.proofs.PlainRows.{plain_told}
+use Rattle.pgw_tree.proofs.Parts.{filled_cause}
 use Rattle.pgw_tree.proofs.next_row.send_values.Goals as goal
 
-pub returns-then-send-bytes-clause-write_fault : goal.returns-then-send-bytes-clause-write_fault
-returns-then-send-bytes-clause-write_fault g c = λ _.
+pub returns-then-send-bytes-clause-err : goal.returns-then-send-bytes-clause-err
+returns-then-send-bytes-clause-err g c =
     let bytes = c.as_bytes-bytes.result.now in
-    let run = c.plain_rows-run.result in
-    let rows = c.plain_rows-run.ensures.rows in
+    let run = c.plain_rows-run.ensures in
     let sent = c.send.result in
-    let told = plain_told c.args.field_max (shapes c.args.columns.now) (cells_of c.args.row.now) _ bytes run.bytes.now rows.0 c.requires.row c.as_bytes-bytes.ensures c.plain_rows-run.ensures.front c.if-run-bytes.true (rows.1 ∙ c.if-run-eq1.true) rows.2 in (
+    let told = plain_told c.args.field_max (shapes c.args.columns.now) (cells_of c.args.row.now) _ bytes _ run.rows c.requires.row c.as_bytes-bytes.ensures run.front c.if-run-bytes.true (run.as_many ∙ c.if-run-eq1.true) run.plain in
+    has_broken refl (
       told.0,
       told.1,
-      told.2,
-      record { front = take sent bytes; rest = drop sent bytes; splits = sym told.3 ∙ sym (take-append-drop sent bytes); wrote = c.send.ensures.wrote },
+      record { front = take sent bytes; rest = drop sent bytes; is = sym told.2 ∙ sym (take-append-drop sent bytes); missing = omega (arith, c.if-send-bytes.true, length-drop sent bytes); written = c.send.ensures.wrote },
       c.send.ensures.failed c.if-send-bytes.true,
     )
 
 pub returns-then-run-bytes-clause-ok : goal.returns-then-run-bytes-clause-ok
 returns-then-run-bytes-clause-ok g c =
     let bytes = c.as_bytes-bytes.result.now in
-    let run = c.plain_rows-run.result in
-    let rows = c.plain_rows-run.ensures.rows in
-    let told = plain_told c.args.field_max (shapes c.args.columns.now) (cells_of c.args.row.now) _ bytes run.bytes.now rows.0 c.requires.row c.as_bytes-bytes.ensures c.plain_rows-run.ensures.front c.if-run-bytes.true (rows.1 ∙ c.if-run-eq1.true) rows.2 in
+    let run = c.plain_rows-run.ensures in
+    let told = plain_told c.args.field_max (shapes c.args.columns.now) (cells_of c.args.row.now) _ bytes _ run.rows c.requires.row c.as_bytes-bytes.ensures run.front c.if-run-bytes.true (run.as_many ∙ c.if-run-eq1.true) run.plain in
     let all : take c.send.result bytes ≡ bytes = take_all c.send.result bytes (omega (arith, c.if-send-bytes.false)) in
-    let wrote = Wrote (g.K.Sink.gained c.args.sink.now) (g.K.Sink.gained c.send.new.sink) (g.K.Sink.settled c.args.sink.now) (g.K.Sink.settled c.send.new.sink) in
-    (told.0, told.1, told.2, subst wrote (all ∙ told.3) c.send.ensures.wrote)
+    (told.0, told.1, subst (Wrote (g.K.Sink.state c.args.sink.now) (g.K.Sink.state c.send.new.sink)) (all ∙ told.2) c.send.ensures.wrote)
 
-pub returns-in_err-fill_row-clause-bad_value : goal.returns-in_err-fill_row-clause-bad_value
-returns-in_err-fill_row-clause-bad_value g c = λ column kind e.
-    c.in_err-fill_row.ensures.bad_value column kind (sym (fault_exit c.from_residual.result _ c.from_residual.ensures.1) ∙ e)
-
-pub returns-in_err-fill_row-clause-too_long : goal.returns-in_err-fill_row-clause-too_long
-returns-in_err-fill_row-clause-too_long g c = λ column e.
-    c.in_err-fill_row.ensures.too_long column (sym (fault_exit c.from_residual.result _ c.from_residual.ensures.1) ∙ e)
+pub returns-in_err-fill_row-clause-err : goal.returns-in_err-fill_row-clause-err
+returns-in_err-fill_row-clause-err g c = rw (exit c.from_residual.result _ c.from_residual.ensures.1) (filled_cause _ _ c.in_err-fill_row.ensures.err)

@@ -12,7 +12,7 @@ loop-goes_on-preserved c =
     let columns : length ts ≡ length c.args.columns.now = length-map c.args.columns.now shape in
     record {
       limit = omega (arith, c.if-rows-most.true);
-      front = inv.front ++ r.1.row;
-      is = inv.is ∙ ap (λ l. inv.front ++ l) r.1.is ∙ sym (append_assoc inv.front r.1.row c.in-Some.behind.now);
-      respelled = respelled_row_more c.args.field_max ts c.loop-goes_on.rows c.loop-goes_on.out.bytes inv.front r.1.row c.respell_row.new.out.bytes r.1.values c.requires.max (omega (arith, columns, c.requires.few)) inv.respelled r.1.is_row (r.2 ∙ ap (λ l. c.loop-goes_on.out.bytes ++ l) r.1.form);
+      front = inv.front ++ r.row;
+      is = inv.is ∙ ap (λ l. inv.front ++ l) r.is ∙ sym (append_assoc inv.front r.row c.in-Some.behind.now);
+      respelled = respelled_row_more c.args.field_max ts c.loop-goes_on.rows c.loop-goes_on.out.bytes inv.front r.row c.respell_row.new.out.bytes r.values c.requires.max (omega (arith, columns, c.requires.few)) inv.respelled r.is_row r.appended;
     }

@@ -8,5 +8,5 @@ pub send_rows-requires-clause-rows : goal.send_rows-requires-clause-rows
 send_rows-requires-clause-rows g c =
     let ts = shapes c.args.columns.now in
     let run = c.plain_rows-run.result in
-    let p = c.plain_rows-run.ensures.rows in
-    subst (λ (most : ℕ). AreRespelled most ts run.rows run.bytes.now run.bytes.now) c.field_max.ensures.value (plain_respelled c.field_max.result ts run.rows run.bytes.now p.0 p.1 p.2)
+    let p = c.plain_rows-run.ensures in
+    subst (λ (most : ℕ). AreRespelled most ts run.rows run.bytes.now run.bytes.now) c.field_max.ensures.value (plain_respelled c.field_max.result ts run.rows run.bytes.now p.rows p.as_many p.plain)

@@ -1,4 +1,4 @@
-use Rattle.std.proofs.Common.{rules, length, ap, arith}
+use Rattle.std.proofs.Common.{length, ap, arith}
 use Rattle.std.proofs.lemmas.List.{take_rest, length-drop}
 use Rattle.pgw_tree.specs.Tree.{shapes}
 use Rattle.pgw_tree.proofs.Runs.{run_behind, broken_behind}
@@ -14,17 +14,18 @@ loop-rows-preserved g c =
       within = omega (arith, inv.within, copied.0, ap length rest, length-drop c.loop-rows.len bytes);
       few = copied.1.few;
       run = run_behind c.args.limits (shapes c.args.columns.now) c.args.before c.loop-rows.rows c.in-Some-Whole.now bytes _ c.loop-rows.len c.in-Some-Whole.more rest inv.run copied.1;
-      faults = search rules;
-      origin = search rules;
     }
 
-pub returns-in-Some-Broken-clause-copied : goal.returns-in-Some-Broken-clause-copied
-returns-in-Some-Broken-clause-copied g c =
+pub returns-in-Some-Broken : goal.returns-in-Some-Broken
+returns-in-Some-Broken g c =
     let inv = c.loop-rows.invariant in
     let bytes = c.args.bytes.now in
     let rest = take_rest bytes c.loop-rows.len in
-    let copied = rw c.in-Some-Broken.field-0-is at c.in-Some-Broken.ensures.copied in (
-      omega (arith, inv.within, copied.0, ap length rest, length-drop c.loop-rows.len bytes),
-      broken_behind c.args.limits (shapes c.args.columns.now) c.args.before c.loop-rows.rows bytes _ c.loop-rows.len c.in-Some-Broken.last rest inv.run copied.1,
-      omega (arith, inv.faults, copied.2),
-    )
+    let copied = rw c.in-Some-Broken.field-0-is at c.in-Some-Broken.ensures.copied in
+    record {
+      copied = (
+        omega (arith, inv.within, copied.0, ap length rest, length-drop c.loop-rows.len bytes),
+        broken_behind c.args.limits (shapes c.args.columns.now) c.args.before c.loop-rows.rows bytes _ c.loop-rows.len c.in-Some-Broken.last rest inv.run copied.1,
+        omega (arith, inv.run.written.goes_on.0, copied.2),
+      );
+    }

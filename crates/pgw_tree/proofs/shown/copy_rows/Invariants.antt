@@ -1,4 +1,4 @@
-use Rattle.std.proofs.Common.{◌≡◌, ◌≤◌, ◌-◌, length, take}
+use Rattle.std.proofs.Common.{◌≤◌, ◌-◌, length, take}
 use Rattle.pgw_wire.specs.Outside.{Wrote}
 use Rattle.pgw_tree.specs.Tree.{shapes}
 use Rattle.pgw_tree.specs.Runs.{IsRun}
@@ -8,9 +8,7 @@ abbrev pub invariant-loop-rows : goal.invariant-loop-rows
 invariant-loop-rows g l = record {
   within : l.len ≤ length l.bytes;
   few : l.rows ≤ l.limits.rows_max;
-  run : IsRun l.limits (shapes l.columns) l.before l.rows (Wrote (g.K.Sink.gained l.fn.sink) (g.K.Sink.gained l.sink) (g.K.Sink.settled l.fn.sink) (g.K.Sink.settled l.sink)) (take l.len l.bytes);
-  faults : g.K.Sink.fault_count l.fn.sink ≤ g.K.Sink.fault_count l.sink;
-  origin : g.K.Sink.origin l.sink ≡ g.K.Sink.origin l.fn.sink;
+  run : IsRun l.limits (shapes l.columns) l.before l.rows (Wrote (g.K.Sink.state l.fn.sink) (g.K.Sink.state l.sink)) (take l.len l.bytes);
 }
 
 abbrev pub decreases-loop-rows : goal.decreases-loop-rows

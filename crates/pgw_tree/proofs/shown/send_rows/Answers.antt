@@ -20,7 +20,7 @@ pub returns-else-sent-canonical-clause-copied : goal.returns-else-sent-canonical
 returns-else-sent-canonical-clause-copied g c =
     let ts = shapes c.args.columns.now in
     let run = c.args.run.now in
-    let wrote = Wrote (g.K.Sink.gained c.args.sink.now) (g.K.Sink.gained c.send-sent.new.sink) (g.K.Sink.settled c.args.sink.now) (g.K.Sink.settled c.send-sent.new.sink) in
+    let wrote = Wrote (g.K.Sink.state c.args.sink.now) (g.K.Sink.state c.send-sent.new.sink) in
     let all : take c.send-sent.result c.args.canonical.now ≡ c.args.canonical.now = take_all c.send-sent.result c.args.canonical.now (omega (arith, c.if-sent-canonical.false)) in (
       omega arith,
       subst (λ (l : List ℕ). IsRun c.args.limits ts c.args.before (c.args.before + c.args.many) wrote l) (sym (take_all (length run) run (omega arith)))

@@ -1,26 +1,26 @@
 use Rattle.std.proofs.Common.{◌∙◌, [], ◌∷◌, ◌++◌, None, Some, refl, ap, arith, inr, append_assoc}
-use Rattle.pgw_wire.proofs.Taking.{took_weaker}
+use Rattle.pgw_wire.proofs.Taking.{took_weaker, exit, takes_first, takes_then, takes_done}
 use Rattle.pgw_copy.specs.Places.{cells_at}
-use Rattle.pgw_copy.specs.Reader.{IsShort, HasSize, IsCutField, IsWholeField}
+use Rattle.pgw_copy.specs.Reader.{no_memory, IsShort, HasSize, IsCutField, IsWholeField}
 use Rattle.pgw_copy.proofs.Fields.{field_of_piece, short_field, short_piece}
 use Rattle.pgw_copy.proofs.Places.{cells_grown, null_kept}
-use Rattle.pgw_copy.proofs.Reading.{exit, kept_at, takes_first, takes_then, takes_done, takes_no_memory}
+use Rattle.pgw_copy.proofs.Reading.{kept_at, takes_no_memory}
 use Rattle.pgw_copy.proofs.row.RowBuffer.take_field.Goals as goal
 
 pub returns-in_err-length-clause-takes : goal.returns-in_err-length-clause-takes
 returns-in_err-length-clause-takes g c =
-    takes_first _ _ (exit c.from_residual.result _ c.from_residual.ensures.1) c.in_err-length.ensures.takes (λ f. f)
+    takes_first _ _ (exit c.from_residual.result _ c.from_residual.ensures.1) c.in_err-length.ensures.takes
     (λ d x. kept_at (IsShort 4) (λ _. ⊥) IsCutField IsWholeField d x x (short_field x) (λ h. absurd h))
 
 pub returns-in_err-push-clause-takes : goal.returns-in_err-push-clause-takes
 returns-in_err-push-clause-takes g c =
     takes_no_memory _ _ (exit c.from_residual-in_err-push.result _ c.from_residual-in_err-push.ensures.1) (c.in_ok-length.ensures.takes.ok _ refl)
-    (λ x is. inr (None, (c.in_ok-length.length, omega arith, is.0, is.1)))
+    (λ x is. no_memory refl (inr (None, (c.in_ok-length.length, omega arith, is.0, is.1))))
 
 pub returns-then-length-lt-NEGATIVE_LENGTH-clause-takes : goal.returns-then-length-lt-NEGATIVE_LENGTH-clause-takes
 returns-then-length-lt-NEGATIVE_LENGTH-clause-takes g c =
     let length = c.in_ok-length.length in
-    takes_then _ _ (c.in_ok-length.ensures.takes.ok _ refl) c.take_piece.ensures.takes (λ f. omega (arith, f, c.in_ok-length.ensures.faults))
+    takes_then _ _ (c.in_ok-length.ensures.takes.ok _ refl) c.take_piece.ensures.takes
     (λ _ x y is h. (
       Some y,
       field_of_piece length x y (omega arith) is.1 h.0,

@@ -1,16 +1,16 @@
 use Rattle.std.proofs.Common.{◌∙◌, List, [], ◌∷◌, ◌++◌, length, Some, refl, sym, ap, arith, subst, inr}
-use Rattle.pgw_wire.proofs.Taking.{took_weaker}
+use Rattle.pgw_wire.proofs.Taking.{took_weaker, exit, takes_first, takes_done}
 use Rattle.pgw_copy.specs.declared.row.Place.{Place}
 use Rattle.pgw_copy.specs.declared.row.Place.TheVariants.{Piece}
 use Rattle.pgw_copy.specs.Places.{cells_at, LiesIn, AllLieIn}
-use Rattle.pgw_copy.specs.Reader.{IsShort, HasSize}
+use Rattle.pgw_copy.specs.Reader.{no_memory, IsShort, HasSize}
 use Rattle.pgw_copy.proofs.Places.{all_lie_later, all_lie_append, piece_kept}
-use Rattle.pgw_copy.proofs.Reading.{exit, kept_at, takes_first, takes_done, takes_no_memory}
+use Rattle.pgw_copy.proofs.Reading.{kept_at, takes_no_memory}
 use Rattle.pgw_copy.proofs.row.RowBuffer.take_piece.Goals as goal
 
 pub returns-in_err-take-clause-takes : goal.returns-in_err-take-clause-takes
 returns-in_err-take-clause-takes g c =
-    takes_first _ _ (exit c.from_residual.result _ c.from_residual.ensures.1) c.in_err-take.ensures.takes (λ f. f)
+    takes_first _ _ (exit c.from_residual.result _ c.from_residual.ensures.1) c.in_err-take.ensures.takes
     (λ d x. kept_at (IsShort c.args.len) (λ _. ⊥) (IsShort c.args.len) (HasSize c.args.len) d x x (λ short. short) (λ h. absurd h))
 
 pub invariant_of-self-in_err-push : goal.invariant_of-self-in_err-push
@@ -19,7 +19,7 @@ invariant_of-self-in_err-push g c =
 
 pub returns-in_err-push-clause-takes : goal.returns-in_err-push-clause-takes
 returns-in_err-push-clause-takes g c =
-    takes_no_memory _ _ (exit c.from_residual-in_err-push.result _ c.from_residual-in_err-push.ensures.1) (c.in_ok-take.ensures.takes.ok _ refl) (λ _ h. inr h.0)
+    takes_no_memory _ _ (exit c.from_residual-in_err-push.result _ c.from_residual-in_err-push.ensures.1) (c.in_ok-take.ensures.takes.ok _ refl) (λ _ h. no_memory refl (inr h.0))
 
 pub invariant_of-self-2 : goal.invariant_of-self-2
 invariant_of-self-2 g c =

@@ -1,8 +1,8 @@
 use Rattle.std.proofs.Common.{◌≡◌, ◌≤◌, ◌++◌, List, ℕ, length, take, drop, ◌+◌, ◌-◌, arith, sym, ap, ◌∙◌, length-take, length-drop, refl}
-use Rattle.pgw_wire.proofs.Taking.{took_weaker}
-use Rattle.pgw_copy.proofs.Lists.{take_two}
+use Rattle.pgw_wire.proofs.Taking.{took_weaker, exit, takes_first, takes_done}
+use Rattle.pgw_copy.proofs.Buffers.{take_two}
 use Rattle.pgw_copy.specs.Reader.{IsShort}
-use Rattle.pgw_copy.proofs.Reading.{exit, takes_first, takes_done, kept_of_cut}
+use Rattle.pgw_copy.proofs.Reading.{kept_of_cut}
 use Rattle.pgw_copy.proofs.taken.TakenBytes.append.Goals as goal
 
 -- how much was to be filled
@@ -12,7 +12,7 @@ part used next lent within = omega (arith, within, length-take (used + next - us
 pub returns-in_err-fill-clause-takes : goal.returns-in_err-fill-clause-takes
 returns-in_err-fill-clause-takes g c =
     let size = part c.self.inside.used c.args.next c.deref_mut.result.now (omega (arith, c.in_ok-make_room.ensures.ok, ap length c.deref_mut.ensures.value)) in
-    takes_first _ _ (exit c.from_residual-in_err-fill.result _ c.from_residual-in_err-fill.ensures.1) (rw size at c.in_err-fill.ensures.takes) (λ f. f)
+    takes_first _ _ (exit c.from_residual-in_err-fill.result _ c.from_residual-in_err-fill.ensures.1) (rw size at c.in_err-fill.ensures.takes)
     (λ d bytes. kept_of_cut (IsShort c.args.next) (IsShort c.args.next) (λ _. ⊥) d bytes bytes (λ s. s))
 
 pub returns-clause-takes : goal.returns-clause-takes

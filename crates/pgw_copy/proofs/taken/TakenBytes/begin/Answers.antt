@@ -1,5 +1,5 @@
 use Rattle.std.proofs.Common.{◌≤◌, [], vec_len, ◌∙◌, ap, length, arith}
-use Rattle.pgw_copy.proofs.Lists.{take_two}
+use Rattle.pgw_copy.proofs.Buffers.{take_two}
 use Rattle.pgw_copy.proofs.taken.TakenBytes.begin.Goals as goal
 
 pub returns : goal.returns

@@ -5,10 +5,8 @@ use Rattle.pgw_copy.proofs.taken.TakenBytes.take.Given as goal
 abbrev pub invariant-loop-left : goal.invariant-loop-left
 invariant-loop-left g l = record {
   within : l.left ≤ l.len;
-  took : Took (g.S.Source.left l.fn.source) (g.S.Source.left l.source) (λ taken. (length taken + l.left ≡ l.len) × (l.self ≡ l.fn.self ++ taken));
+  took : Took (g.S.Source.state l.fn.source) (g.S.Source.state l.source) (λ taken. (length taken + l.left ≡ l.len) × (l.self ≡ l.fn.self ++ taken));
   grown : length l.self + l.left ≡ length l.fn.self + l.len;
-  faults : g.S.Source.fault_count l.fn.source ≤ g.S.Source.fault_count l.source;
-  origin : g.S.Source.origin l.source ≡ g.S.Source.origin l.fn.source;
 }
 
 abbrev pub decreases-loop-left : goal.decreases-loop-left

@@ -1,8 +1,7 @@
 -- Big-endian numbers and the bytes that they are read from.
-use Rattle.std.proofs.Common.{◌≡◌, ℕ, ◌<◌, ◌^◌, List, [], ◌∷◌, ◌++◌, length, Option, None, Some, refl, sym, ap, ◌∙◌, arith, length-append, append-nil}
+use Rattle.std.proofs.Common.{◌≡◌, ℕ, ◌<◌, ◌^◌, List, [], ◌∷◌, ◌++◌, length, refl, sym, ap, ◌∙◌, arith, length-append, append-nil}
 use Rattle.std.specs.Int.{to_be_bytes, from_be_bytes, w16, w32}
 use Rattle.std.proofs.lemmas.Nat.{from_be_bytes-to_be_bytes_2, from_be_bytes-to_be_bytes_4}
-use Rattle.pgw_copy.specs.Format.{IsCount}
 
 empty : (xs : List ℕ) → length xs ≡ 0 → xs ≡ []
 empty [] e = refl
@@ -26,8 +25,3 @@ same_number_2 m n fm fn e = sym (from_be_bytes-to_be_bytes_2 m fm) ∙ ap (from_
 
 pub same_number_4 : (m n : ℕ) → m < 2 ^ 32 → n < 2 ^ 32 → to_be_bytes w32 m ≡ to_be_bytes w32 n → m ≡ n
 same_number_4 m n fm fn e = sym (from_be_bytes-to_be_bytes_4 m fm) ∙ ap (from_be_bytes w32) e ∙ from_be_bytes-to_be_bytes_4 n fn
-
--- A count has two bytes.
-pub length-count : (c : Option ℕ) (bytes : List ℕ) → IsCount c bytes → length bytes ≡ 2
-length-count None bytes is = ap length is
-length-count (Some n) bytes is = ap length is.1
