@@ -163,6 +163,30 @@ impl Write for Odd {
     }
 }
 
+/// A reader that fails at its first call, gives nothing at its second, and then a byte at each.
+#[derive(Drop)]
+struct Late {
+    calls: u8,
+}
+
+impl Read for Late {
+    fn read(&mut self, buf: &mut [u8]) -> io::Result<usize> {
+        self.calls = self.calls.saturating_add(1);
+        match self.calls {
+            1 => Err(io::Error::from(io::ErrorKind::Other)),
+            2 => Ok(0),
+            _ if buf.is_empty() => Ok(0),
+            _ => {
+                buf[0] = 9;
+                Ok(1)
+            }
+        }
+    }
+}
+
+// what the calls of such a reader come to
+const LATE: [Result<usize, Failed>; 3] = [Err(Failed), Ok(0), Ok(1)];
+
 #[test]
 fn a_reader_is_a_source(rt: HostRuntime) {
     let mut source = ReadSource::new(b"xyz".as_slice());
@@ -177,6 +201,12 @@ fn a_reader_is_a_source(rt: HostRuntime) {
     assert_eq!(rt; source.read(&mut buf), Ok(1));
     assert_eq!(rt; buf, [7, 0]);
     assert_eq!(rt; source.read(&mut buf), Err(Failed));
+    assert_eq!(rt; source.faults(), 1);
+
+    let mut source = ReadSource::new(Late { calls: 0 });
+    for answer in LATE {
+        assert_eq!(rt; source.read(&mut buf), answer);
+    }
     assert_eq!(rt; source.faults(), 1);
 }
 
@@ -198,6 +228,18 @@ fn a_reader_with_a_buffer_is_a_source(rt: HostRuntime) {
     assert_eq!(rt; buf, [7, b'f', b'c']);
     assert_eq!(rt; source.read(&mut buf), Err(Failed));
     assert_eq!(rt; buf, [7, b'f', b'c']);
+    assert_eq!(rt; source.faults(), 1);
+
+    // The buffer finds nothing, and then the read of one byte gives it.
+    let reader = BufReader::with_capacity(alloc, 4, Late { calls: 0 }).expect(&rt, "memory");
+    let mut source = BufReadSource::new(reader);
+    for answer in [Err(Failed), Ok(1), Ok(1)] {
+        assert_eq!(rt; source.read(&mut buf), answer);
+    }
+    assert_eq!(rt; source.faults(), 1);
+    let reader = BufReader::with_capacity(alloc, 4, Late { calls: 0 }).expect(&rt, "memory");
+    let mut source = BufReadSource::new(reader);
+    assert_eq!(rt; source.read(&mut []), Err(Failed));
     assert_eq!(rt; source.faults(), 1);
 }
 
@@ -284,20 +326,28 @@ fn no_bytes_are_shown(rt: HostRuntime) {
     assert_eq!(rt; source.faults(), 1);
     assert_eq!(rt; taker.shown, 9);
     assert_eq!(rt; to.as_slice(), b"".as_slice());
+
+    let reader = BufReader::with_capacity(alloc, 4, Late { calls: 0 }).expect(&rt, "memory");
+    let mut source = BufReadSource::new(reader);
+    assert_eq!(rt; source.show(&mut taker, &mut to), Err(Failed));
+    assert_eq!(rt; source.faults(), 1);
+    assert_eq!(rt; source.show(&mut taker, &mut to), Ok(true));
+    assert_eq!(rt; taker.shown, 0);
 }
 
-// A table of the cuts, the call that fails, how many bytes went, and how many calls failed.
+// the cuts, the call that fails, how many bytes went, and how many calls failed
+const SENT: [(&[usize], u64, usize, u64); 5] = [
+    (&[], 9, 6, 0),
+    (&[2, 1], 9, 6, 0),
+    (&[2, 1], 3, 6, 0),
+    (&[2, 1], 2, 3, 1),
+    (&[], 0, 0, 1),
+];
+
 #[test]
 fn a_piece_is_sent_until_the_sink_fails(rt: HostRuntime) {
     let alloc: Global = rt.alloc();
-    let table: [(&[usize], u64, usize, u64); 5] = [
-        (&[], 9, 6, 0),
-        (&[2, 1], 9, 6, 0),
-        (&[2, 1], 3, 6, 0),
-        (&[2, 1], 2, 3, 1),
-        (&[], 0, 0, 1),
-    ];
-    for (cuts, fail, sent, faults) in table {
+    for (cuts, fail, sent, faults) in SENT {
         let cuts = cuts.to_vec(alloc).expect(&rt, "memory");
         let fails = [fail].to_vec(alloc).expect(&rt, "memory");
         let mut sink = MemorySink::new(alloc, cuts, fails);
