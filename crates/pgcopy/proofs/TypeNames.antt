@@ -3,6 +3,7 @@ use Rattle.std.proofs.Common.{◌≡◌, ◌≢◌, ℕ, ◌<◌, ◌+◌, ◌-�
 use Rattle.std.proofs.lemmas.Slice.Eq.{bytes_eq-Decides}
 use Rattle.std.proofs.lemmas.Bool.{false_from_ne_true}
 use Rattle.std.proofs.lemmas.Str.Pattern.{strip_suffix_char}
+use Rattle.std.specs.Bool.{⊤}
 use Rattle.std.specs.Option.{MatchOption, is_some, unwrap_or}
 use Rattle.std.specs.Str.{bytes_eq}
 use Rattle.std.specs.Str.Pattern.{FindsCharSuffix}
@@ -60,7 +61,16 @@ type_is word (Some x) is = rw (sym is) refl
 pub differs : (xs ys : List ℕ) → (xs ≡ ys → ⊥) → bytes_eq xs ys ≡ false
 differs xs ys other = false_from_ne_true (bytes_eq xs ys) (λ e. other ((bytes_eq-Decides xs ys).0 e))
 
+-- a name that stands in no line of a table
+abbrev pub StandsNowhere : {A : Type 0} → List ℕ → List (List ℕ × A) → Type 0
+StandsNowhere name [] = ⊤
+StandsNowhere name (entry ∷ entries) = (name ≡ entry.0 → ⊥) × StandsNowhere name entries
+
+nothing_named : {A : Type 0} (name : List ℕ) (entries : List (List ℕ × A)) → StandsNowhere name entries → look_up name entries ≡ None
+nothing_named name [] h = refl
+nothing_named name (entry ∷ entries) h = rw (differs name entry.0 h.0) (nothing_named name entries h.1)
+
 -- a name that no type has
-pub no_type : (marked : Option (Bor (List ℕ))) (name : List ℕ) → (name ≡ codes "int4" → ⊥) → (name ≡ codes "text" → ⊥) → (if is_some marked then option_map nullable (look_up name type_names) else look_up name type_names) ≡ None
-no_type None name int4 text = rw (differs name (codes "int4") int4, differs name (codes "text") text) refl
-no_type (Some x) name int4 text = rw (differs name (codes "int4") int4, differs name (codes "text") text) refl
+pub no_type : (marked : Option (Bor (List ℕ))) (name : List ℕ) → StandsNowhere name type_names → (if is_some marked then option_map nullable (look_up name type_names) else look_up name type_names) ≡ None
+no_type None name h = nothing_named name type_names h
+no_type (Some x) name h = rw (nothing_named name type_names h) refl
