@@ -8,6 +8,9 @@ use std::process::Abort;
 // a stream of one row, the number 42
 const ONE_ROW: &[u8] = b"PGCOPY\n\xff\r\n\0\0\0\0\0\0\0\0\0\0\x01\0\0\0\x04\0\0\0\x2a\xff\xff";
 
+// the same row without an end
+const CUT: &[u8] = b"PGCOPY\n\xff\r\n\0\0\0\0\0\0\0\0\0\0\x01\0\0\0\x04\0\0\0\x2a";
+
 /// The most bytes that a read gives or a write takes.
 const MOST: usize = 150000;
 
@@ -214,27 +217,29 @@ fn a_call_that_fails_is_told_and_one_that_a_signal_interrupted_is_made_again(rt:
     break_calls(&rt, alloc, &["copy", "text"], &stream, &KINDS[..4]);
 }
 
+// words, a stream, the status, the line, and how many calls the output gets
+const ENDS: [(&[&str], &[u8], Status, &[u8], usize); 3] = [
+    (&["copy", "int4"], ONE_ROW, Status::Copied, b"rows 1\n", 3),
+    (
+        &["copy", "int4"],
+        CUT,
+        Status::Refused,
+        b"truncated\n",
+        2,
+    ),
+    (
+        &["copy"],
+        ONE_ROW,
+        Status::Words,
+        b"word 1: missing type\n",
+        1,
+    ),
+];
+
 // The line is written once and flushed, and the output is flushed behind a refusal, too.
 #[test]
 fn what_came_of_a_copy_is_told(rt: HostRuntime) {
-    let table: [(&[&str], &[u8], Status, &[u8], usize); 3] = [
-        (&["copy", "int4"], ONE_ROW, Status::Copied, b"rows 1\n", 3),
-        (
-            &["copy", "int4"],
-            &ONE_ROW[..29],
-            Status::Refused,
-            b"truncated\n",
-            2,
-        ),
-        (
-            &["copy"],
-            ONE_ROW,
-            Status::Words,
-            b"word 1: missing type\n",
-            1,
-        ),
-    ];
-    for (words, input, status, line, writes) in table {
+    for (words, input, status, line, writes) in ENDS {
         let ended = copy_on(rt.alloc(), words, input, NONE, NONE).expect(&rt, "memory");
         assert!(rt; ended.status == status);
         assert!(rt; ended.line.as_slice() == line);
@@ -255,18 +260,20 @@ fn texts_beside_a_run_are_told(rt: HostRuntime) {
     assert!(rt; errors.as_slice() == wanted);
 }
 
+// words, and what the text begins with that they ask for, if any
+const ASKED: [(&[&str], &str); 5] = [
+    (&["--help"], "usage: pgcopy copy "),
+    (&["-h"], "usage: pgcopy copy "),
+    (&["--version"], "pgcopy "),
+    (&["copy", "--help"], ""),
+    (&[], ""),
+];
+
 // A text is written and flushed. Each of the two calls fails in turn.
 #[test]
 fn help_is_asked_for_by_one_word(rt: HostRuntime) {
     let alloc = rt.alloc();
-    let table: [(&[&str], &str); 5] = [
-        (&["--help"], "usage: pgcopy copy "),
-        (&["-h"], "usage: pgcopy copy "),
-        (&["--version"], "pgcopy "),
-        (&["copy", "--help"], ""),
-        (&[], ""),
-    ];
-    for (given, begin) in table {
+    for (given, begin) in ASKED {
         let mut words = Vec::new(alloc);
         for word in given {
             let word = String::from_str(alloc, word).expect(&rt, "memory");

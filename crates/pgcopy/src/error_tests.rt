@@ -18,75 +18,81 @@ fn first_other<E: Display>(
     Ok(None)
 }
 
+// each error, and its text
+const BREAKS: [(Break, &str); 10] = [
+    (Break::Null, "null"),
+    (Break::Size, "size"),
+    (Break::Count, "count"),
+    (Break::Utf8, "utf8"),
+    (Break::Sign, "sign"),
+    (Break::Family, "family"),
+    (Break::Prefix, "prefix"),
+    (Break::ZeroOid, "zero oid"),
+    (Break::Dimensions, "dimensions"),
+    (Break::Surplus, "surplus"),
+];
+
+const READ: [(CopyReadError, &str); 6] = [
+    (CopyReadError::BadHeader, "bad header"),
+    (CopyReadError::BadFlags(0x8001ab), "bad flags 008001AB"),
+    (CopyReadError::Truncated, "truncated"),
+    (CopyReadError::BadFieldCount(-2), "bad field count -2"),
+    (CopyReadError::ReadFault, "read fault"),
+    (CopyReadError::NoMemory, "out of memory"),
+];
+
+const COPIED: [(CopyFault, &str); 5] = [
+    (
+        CopyFault::UnexpectedEndOfRow { row: 3 },
+        "row 3: too few fields",
+    ),
+    (
+        CopyFault::BadValue {
+            row: 7,
+            column: 2,
+            kind: Break::ZeroOid,
+        },
+        "row 7 column 2: zero oid",
+    ),
+    (
+        CopyFault::TooLong { row: 7, column: 2 },
+        "row 7 column 2: too long",
+    ),
+    (CopyFault::RowLimit, "row limit"),
+    (CopyFault::WriteFault, "write fault"),
+];
+
+const WORDS: [(WordFault, &str); 7] = [
+    (WordFault::NoCommand, "missing command"),
+    (WordFault::UnknownCommand, "unknown command"),
+    (WordFault::BadNumber, "bad number"),
+    (WordFault::Repeated, "repeated option"),
+    (WordFault::NoTypes, "missing type"),
+    (WordFault::Schema(2), "schema fault 2"),
+    (WordFault::NotYet, "not supported yet"),
+];
+
+const PLACED: [(WordError, &str); 2] = [
+    (
+        WordError::Fault {
+            place: 3,
+            fault: WordFault::Schema(2),
+        },
+        "word 3: schema fault 2",
+    ),
+    (WordError::NoMemory, "out of memory"),
+];
+
 #[test]
 fn errors_have_their_texts(rt: HostRuntime) {
-    let kinds = [
-        (Break::Null, "null"),
-        (Break::Size, "size"),
-        (Break::Count, "count"),
-        (Break::Utf8, "utf8"),
-        (Break::Sign, "sign"),
-        (Break::Family, "family"),
-        (Break::Prefix, "prefix"),
-        (Break::ZeroOid, "zero oid"),
-        (Break::Dimensions, "dimensions"),
-        (Break::Surplus, "surplus"),
-    ];
-    let read = [
-        (CopyReadError::BadHeader, "bad header"),
-        (CopyReadError::BadFlags(0x8001ab), "bad flags 008001AB"),
-        (CopyReadError::Truncated, "truncated"),
-        (CopyReadError::BadFieldCount(-2), "bad field count -2"),
-        (CopyReadError::ReadFault, "read fault"),
-        (CopyReadError::NoMemory, "out of memory"),
-    ];
-    let copied = [
-        (
-            CopyFault::UnexpectedEndOfRow { row: 3 },
-            "row 3: too few fields",
-        ),
-        (
-            CopyFault::BadValue {
-                row: 7,
-                column: 2,
-                kind: Break::ZeroOid,
-            },
-            "row 7 column 2: zero oid",
-        ),
-        (
-            CopyFault::TooLong { row: 7, column: 2 },
-            "row 7 column 2: too long",
-        ),
-        (CopyFault::RowLimit, "row limit"),
-        (CopyFault::WriteFault, "write fault"),
-    ];
-    let words = [
-        (WordFault::NoCommand, "missing command"),
-        (WordFault::UnknownCommand, "unknown command"),
-        (WordFault::BadNumber, "bad number"),
-        (WordFault::Repeated, "repeated option"),
-        (WordFault::NoTypes, "missing type"),
-        (WordFault::Schema(2), "schema fault 2"),
-        (WordFault::NotYet, "not supported yet"),
-    ];
-    let placed = [
-        (
-            WordError::Fault {
-                place: 3,
-                fault: WordFault::Schema(2),
-            },
-            "word 3: schema fault 2",
-        ),
-        (WordError::NoMemory, "out of memory"),
-    ];
     let alloc = rt.alloc();
-    assert_eq!(rt; first_other(alloc, &kinds), Ok(None));
-    assert_eq!(rt; first_other(alloc, &read), Ok(None));
-    let passed_on = read.map(|(error, text)| (CopyFault::from(error), text));
+    assert_eq!(rt; first_other(alloc, &BREAKS), Ok(None));
+    assert_eq!(rt; first_other(alloc, &READ), Ok(None));
+    let passed_on = READ.map(|(error, text)| (CopyFault::from(error), text));
     assert_eq!(rt; first_other(alloc, &passed_on), Ok(None));
-    assert_eq!(rt; first_other(alloc, &copied), Ok(None));
-    assert_eq!(rt; first_other(alloc, &words), Ok(None));
-    assert_eq!(rt; first_other(alloc, &placed), Ok(None));
+    assert_eq!(rt; first_other(alloc, &COPIED), Ok(None));
+    assert_eq!(rt; first_other(alloc, &WORDS), Ok(None));
+    assert_eq!(rt; first_other(alloc, &PLACED), Ok(None));
     assert_eq!(rt;
         first_other(alloc, &[(NoMemory, "out of memory")]),
         Ok(None)

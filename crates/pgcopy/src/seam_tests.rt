@@ -280,39 +280,44 @@ fn taken_behind(rt: &impl Abort, alloc: Global, case: Case, written: usize) -> u
     prepared.input.len().saturating_sub(left_of(&mut source))
 }
 
-// The ends of four rows that are canonical as they stand, and of four that are spelled otherwise.
+// how many bytes the sink gets before it fails, and how many are taken then, of four rows that are canonical as they stand
+const AS_THEY_STAND: [(usize, usize); 12] = [
+    (0, 19),
+    (18, 19),
+    (19, 35),
+    (34, 35),
+    (35, 49),
+    (48, 49),
+    (49, 63),
+    (62, 63),
+    (63, 79),
+    (78, 79),
+    (79, 81),
+    (81, 81),
+];
+
+// the same of four rows that are spelled otherwise
+const SPELLED_OTHERWISE: [(usize, usize); 11] = [
+    (18, 19),
+    (19, 42),
+    (34, 42),
+    (35, 61),
+    (48, 61),
+    (49, 85),
+    (64, 85),
+    (65, 108),
+    (80, 108),
+    (81, 110),
+    (82, 110),
+];
+
 #[test]
 fn rows_through_the_one_in_which_the_sink_failed_are_taken(rt: HostRuntime) {
     let alloc = rt.alloc();
-    for (written, taken) in [
-        (0, 19),
-        (18, 19),
-        (19, 35),
-        (34, 35),
-        (35, 49),
-        (48, 49),
-        (49, 63),
-        (62, 63),
-        (63, 79),
-        (78, 79),
-        (79, 81),
-        (81, 81),
-    ] {
+    for (written, taken) in AS_THEY_STAND {
         assert_eq!(rt; taken_behind(&rt, alloc, CASES[1], written), taken);
     }
-    for (written, taken) in [
-        (18, 19),
-        (19, 42),
-        (34, 42),
-        (35, 61),
-        (48, 61),
-        (49, 85),
-        (64, 85),
-        (65, 108),
-        (80, 108),
-        (81, 110),
-        (82, 110),
-    ] {
+    for (written, taken) in SPELLED_OTHERWISE {
         assert_eq!(rt; taken_behind(&rt, alloc, CASES[3], written), taken);
     }
 }

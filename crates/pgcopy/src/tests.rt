@@ -64,20 +64,22 @@ fn assert_ended(rt: &impl Abort, ended: &Ended, status: Status, line: &[u8], out
     assert_eq!(rt; ended.output.gained(), output);
 }
 
+// words that are wrong, and the line of each
+const WRONG_WORDS: [(&[&str], &[u8]); 6] = [
+    (&[], b"word 0: missing command\n"),
+    (&["copy"], b"word 1: missing type\n"),
+    (&["copy", "int9"], b"word 1: not supported yet\n"),
+    (&["cpy"], b"word 0: unknown command\n"),
+    (&["copy", "rows=x", "int4"], b"word 1: bad number\n"),
+    (
+        &["copy", "rows=1", "rows=2", "int4"],
+        b"word 2: repeated option\n",
+    ),
+];
+
 #[test]
 fn words_that_are_wrong_are_told(rt: HostRuntime) {
-    let table: [(&[&str], &[u8]); 6] = [
-        (&[], b"word 0: missing command\n"),
-        (&["copy"], b"word 1: missing type\n"),
-        (&["copy", "int9"], b"word 1: not supported yet\n"),
-        (&["cpy"], b"word 0: unknown command\n"),
-        (&["copy", "rows=x", "int4"], b"word 1: bad number\n"),
-        (
-            &["copy", "rows=1", "rows=2", "int4"],
-            b"word 2: repeated option\n",
-        ),
-    ];
-    for (words, line) in table {
+    for (words, line) in WRONG_WORDS {
         let ended = run_on(rt.alloc(), words, ONE_ROW, &[], &[], &[]).expect(&rt, "memory");
         assert_ended(&rt, &ended, Status::Words, line, b"");
         assert_eq!(rt; ended.taken, 0);
@@ -100,79 +102,130 @@ fn too_many_columns_are_told(rt: HostRuntime) {
     );
 }
 
+// a row with two fields more than there are columns
+const SURPLUS: &[u8] =
+    b"PGCOPY\n\xff\r\n\0\0\0\0\0\0\0\0\0\0\x03\0\0\0\x04\0\0\0\x2a\xff\xff\xff\xff\0\0\0\x01\xaa\xff\xff";
+
+// two bytes behind the end of a stream
+const BEHIND: &[u8] =
+    b"PGCOPY\n\xff\r\n\0\0\0\0\0\0\0\0\0\0\x01\0\0\0\x04\0\0\0\x2a\xff\xff\xaa\xbb";
+
+// a null and the number 7
+const NULL_FIRST: &[u8] =
+    b"PGCOPY\n\xff\r\n\0\0\0\0\0\0\0\0\0\0\x02\xff\xff\xff\xff\0\0\0\x04\0\0\0\x07\xff\xff";
+
+// the same row, its null with the length -2
+const NULL_RESPELLED: &[u8] =
+    b"PGCOPY\n\xff\r\n\0\0\0\0\0\0\0\0\0\0\x02\xff\xff\xff\xfe\0\0\0\x04\0\0\0\x07\xff\xff";
+
+// one row, behind a header with a flag and an extension
+const EXTENDED: &[u8] =
+    b"PGCOPY\n\xff\r\n\0\0\0\0\x01\0\0\0\x05extra\0\x01\0\0\0\x04\0\0\0\x2a\xff\xff";
+
+// two rows of texts
+const TEXTS: &[u8] =
+    b"PGCOPY\n\xff\r\n\0\0\0\0\0\0\0\0\0\0\x02\0\0\0\x02\xc3\xa9\0\0\0\0\0\x02\0\0\0\x01a\xff\xff\xff\xff\xff\xff";
+
+// words, a stream, its canonical form, the line, and how many bytes are taken
+const COPIED: [(&[&str], &[u8], &[u8], &[u8], usize); 6] = [
+    (
+        &["copy", "rows=1", "int4"],
+        EXTENDED,
+        ONE_ROW,
+        b"rows 1\n",
+        36,
+    ),
+    (&["copy", "int4"], SURPLUS, ONE_ROW, b"rows 1\n", 40),
+    (&["copy", "int4"], BEHIND, ONE_ROW, b"rows 1\n", 31),
+    (
+        &["copy", "int4?", "int4"],
+        NULL_RESPELLED,
+        NULL_FIRST,
+        b"rows 1\n",
+        35,
+    ),
+    (&["copy", "rows=0", "int4"], EMPTY, EMPTY, b"rows 0\n", 21),
+    (
+        &["copy", "field=2", "rows=2", "text", "text?"],
+        TEXTS,
+        TEXTS,
+        b"rows 2\n",
+        44,
+    ),
+];
+
 #[test]
 fn streams_are_copied(rt: HostRuntime) {
-    let surplus: &[u8] =
-        b"PGCOPY\n\xff\r\n\0\0\0\0\0\0\0\0\0\0\x03\0\0\0\x04\0\0\0\x2a\xff\xff\xff\xff\0\0\0\x01\xaa\xff\xff";
-    let behind: &[u8] =
-        b"PGCOPY\n\xff\r\n\0\0\0\0\0\0\0\0\0\0\x01\0\0\0\x04\0\0\0\x2a\xff\xff\xaa\xbb";
-    let nulls: &[u8] =
-        b"PGCOPY\n\xff\r\n\0\0\0\0\0\0\0\0\0\0\x02\xff\xff\xff\xff\0\0\0\x04\0\0\0\x07\xff\xff";
-    let other_nulls: &[u8] =
-        b"PGCOPY\n\xff\r\n\0\0\0\0\0\0\0\0\0\0\x02\xff\xff\xff\xfe\0\0\0\x04\0\0\0\x07\xff\xff";
-    let extended: &[u8] =
-        b"PGCOPY\n\xff\r\n\0\0\0\0\x01\0\0\0\x05extra\0\x01\0\0\0\x04\0\0\0\x2a\xff\xff";
-    let texts: &[u8] =
-        b"PGCOPY\n\xff\r\n\0\0\0\0\0\0\0\0\0\0\x02\0\0\0\x02\xc3\xa9\0\0\0\0\0\x02\0\0\0\x01a\xff\xff\xff\xff\xff\xff";
-    let table: [(&[&str], &[u8], &[u8], &[u8], usize); 6] = [
-        (
-            &["copy", "rows=1", "int4"],
-            extended,
-            ONE_ROW,
-            b"rows 1\n",
-            36,
-        ),
-        (&["copy", "int4"], surplus, ONE_ROW, b"rows 1\n", 40),
-        (&["copy", "int4"], behind, ONE_ROW, b"rows 1\n", 31),
-        (
-            &["copy", "int4?", "int4"],
-            other_nulls,
-            nulls,
-            b"rows 1\n",
-            35,
-        ),
-        (&["copy", "rows=0", "int4"], EMPTY, EMPTY, b"rows 0\n", 21),
-        (
-            &["copy", "field=2", "rows=2", "text", "text?"],
-            texts,
-            texts,
-            b"rows 2\n",
-            44,
-        ),
-    ];
-    for (words, input, output, line, taken) in table {
+    for (words, input, output, line, taken) in COPIED {
         let ended = run_on(rt.alloc(), words, input, &[], &[], &[]).expect(&rt, "memory");
         assert_ended(&rt, &ended, Status::Copied, line, output);
         assert_eq!(rt; ended.taken, taken);
     }
 }
 
+// The reads and the calls of the sink that fail, the line, how many bytes of two rows are written, and how many are taken.
 // The reads are the header, then of each row its count, a length and four bytes; the sink's calls are the header, each
 // row, the end and the flush.
+const OUTSIDE: [(&[u64], &[u64], &[u8], usize, usize); 4] = [
+    (&[2], &[], b"read fault\n", 19, 21),
+    (&[5], &[], b"read fault\n", 29, 31),
+    (&[], &[2], b"write fault\n", 29, 39),
+    (&[], &[4], b"write fault\n", 41, 41),
+];
+
 #[test]
 fn faults_outside_are_told(rt: HostRuntime) {
-    let rows: &[u8] =
-        b"PGCOPY\n\xff\r\n\0\0\0\0\0\0\0\0\0\0\x01\0\0\0\x04\0\0\0\x2a\0\x01\0\0\0\x04\0\0\0\x2b\xff\xff";
-    let table: [(&[u64], &[u64], &[u8], &[u8], usize); 4] = [
-        (&[2], &[], b"read fault\n", &rows[..19], 21),
-        (&[5], &[], b"read fault\n", &rows[..29], 31),
-        (&[], &[2], b"write fault\n", &rows[..29], 39),
-        (&[], &[4], b"write fault\n", rows, 41),
-    ];
-    for (read_fails, write_fails, line, output, taken) in table {
+    for (read_fails, write_fails, line, written, taken) in OUTSIDE {
         let ended = run_on(
             rt.alloc(),
             &["copy", "int4"],
-            rows,
+            TWO_ROWS,
             &[],
             read_fails,
             write_fails,
         )
         .expect(&rt, "memory");
-        assert_ended(&rt, &ended, Status::Outside, line, output);
+        assert_ended(&rt, &ended, Status::Outside, line, &TWO_ROWS[..written]);
         assert_eq!(rt; ended.taken, taken);
     }
 }
+
+// a row of two fields, and the count of another
+const SHORT: &[u8] =
+    b"PGCOPY\n\xff\r\n\0\0\0\0\0\0\0\0\0\0\x02\0\0\0\x04\0\0\0\x2a\xff\xff\xff\xff\0\x01";
+
+// the row 42, and one of a null
+const NULL_BEHIND: &[u8] =
+    b"PGCOPY\n\xff\r\n\0\0\0\0\0\0\0\0\0\0\x01\0\0\0\x04\0\0\0\x2a\0\x01\xff\xff\xff\xff\xff\xff";
+
+// the row 42 without an end
+const CUT: &[u8] = b"PGCOPY\n\xff\r\n\0\0\0\0\0\0\0\0\0\0\x01\0\0\0\x04\0\0\0\x2a";
+
+// one row, behind a signature with another letter
+const OTHER: &[u8] = b"PGCOPX\n\xff\r\n\0\0\0\0\0\0\0\0\0\0\x01\0\0\0\x04\0\0\0\x2a";
+
+// Words, a stream that is refused, a read that would fail if it were made, how many bytes are taken, what is written, and
+// the line.
+const REFUSED_EARLY: [(&[&str], &[u8], u64, usize, &[u8], &[u8]); 4] = [
+    (
+        &["copy", "int4", "int4", "int4"],
+        SHORT,
+        5,
+        33,
+        HEADER,
+        b"row 0: too few fields\n",
+    ),
+    (
+        &["copy", "int4"],
+        NULL_BEHIND,
+        6,
+        35,
+        CUT,
+        b"row 1 column 0: null\n",
+    ),
+    (&["copy", "int4"], CUT, 5, 29, CUT, b"truncated\n"),
+    (&["copy", "int4"], OTHER, 1, 19, b"", b"bad header\n"),
+];
 
 #[test]
 fn no_call_is_made_that_is_not_needed(rt: HostRuntime) {
@@ -181,84 +234,63 @@ fn no_call_is_made_that_is_not_needed(rt: HostRuntime) {
     );
     assert_eq!(rt; flushed.status, Status::Copied);
     assert_eq!(rt; flushed.output.faults(), 0);
-    let short: &[u8] =
-        b"PGCOPY\n\xff\r\n\0\0\0\0\0\0\0\0\0\0\x02\0\0\0\x04\0\0\0\x2a\xff\xff\xff\xff\0\x01";
-    let null: &[u8] =
-        b"PGCOPY\n\xff\r\n\0\0\0\0\0\0\0\0\0\0\x01\0\0\0\x04\0\0\0\x2a\0\x01\xff\xff\xff\xff\xff\xff";
-    let other: &[u8] = b"PGCOPX\n\xff\r\n\0\0\0\0\0\0\0\0\0\0\x01\0\0\0\x04\0\0\0\x2a";
-    let table: [(&[&str], &[u8], u64, usize, &[u8], &[u8]); 4] = [
-        (
-            &["copy", "int4", "int4", "int4"],
-            short,
-            5,
-            33,
-            HEADER,
-            b"row 0: too few fields\n",
-        ),
-        (
-            &["copy", "int4"],
-            null,
-            6,
-            35,
-            &ONE_ROW[..29],
-            b"row 1 column 0: null\n",
-        ),
-        (
-            &["copy", "int4"],
-            &ONE_ROW[..29],
-            5,
-            29,
-            &ONE_ROW[..29],
-            b"truncated\n",
-        ),
-        (&["copy", "int4"], other, 1, 19, b"", b"bad header\n"),
-    ];
-    for (words, input, call, taken, written, line) in table {
+    for (words, input, call, taken, written, line) in REFUSED_EARLY {
         let ended = run_on(rt.alloc(), words, input, &[], &[call], &[]).expect(&rt, "memory");
         assert_ended(&rt, &ended, Status::Refused, line, written);
         assert_eq!(rt; ended.taken, taken);
     }
 }
 
-// What is no stream of the columns has a line of its own, and the sink has what came before it.
+// a flag of the high half
+const FLAGS: &[u8] = b"PGCOPY\n\xff\r\n\0\0\x01\0\0\0\0\0\0\xff\xff";
+
+// an extension of the length -1
+const EXTENSION: &[u8] = b"PGCOPY\n\xff\r\n\0\0\0\0\0\xff\xff\xff\xff\xff\xff";
+
+// the count -2
+const COUNT: &[u8] = b"PGCOPY\n\xff\r\n\0\0\0\0\0\0\0\0\0\xff\xfe";
+
+// a text of three bytes
+const LONG: &[u8] = b"PGCOPY\n\xff\r\n\0\0\0\0\0\0\0\0\0\0\x01\0\0\0\x03abc\xff\xff";
+
+// Words and what is no stream of their columns, what came before the fault, which is written, and the line.
+const REFUSED: [(&[&str], &[u8], &[u8], &[u8]); 5] = [
+    (&["copy", "int4"], FLAGS, b"", b"bad flags 00010000\n"),
+    (&["copy", "int4"], EXTENSION, b"", b"bad header\n"),
+    (&["copy", "int4"], COUNT, HEADER, b"bad field count -2\n"),
+    (
+        &["copy", "field=2", "text"],
+        LONG,
+        HEADER,
+        b"row 0 column 0: too long\n",
+    ),
+    (&["copy", "rows=0", "int4"], ONE_ROW, HEADER, b"row limit\n"),
+];
+
 #[test]
 fn streams_that_are_refused_are_told(rt: HostRuntime) {
-    let flags: &[u8] = b"PGCOPY\n\xff\r\n\0\0\x01\0\0\0\0\0\0\xff\xff";
-    let extension: &[u8] = b"PGCOPY\n\xff\r\n\0\0\0\0\0\xff\xff\xff\xff\xff\xff";
-    let count: &[u8] = b"PGCOPY\n\xff\r\n\0\0\0\0\0\0\0\0\0\xff\xfe";
-    let long: &[u8] = b"PGCOPY\n\xff\r\n\0\0\0\0\0\0\0\0\0\0\x01\0\0\0\x03abc\xff\xff";
-    let table: [(&[&str], &[u8], &[u8], &[u8]); 5] = [
-        (&["copy", "int4"], flags, b"", b"bad flags 00010000\n"),
-        (&["copy", "int4"], extension, b"", b"bad header\n"),
-        (&["copy", "int4"], count, HEADER, b"bad field count -2\n"),
-        (
-            &["copy", "field=2", "text"],
-            long,
-            HEADER,
-            b"row 0 column 0: too long\n",
-        ),
-        (&["copy", "rows=0", "int4"], ONE_ROW, HEADER, b"row limit\n"),
-    ];
-    for (words, input, output, line) in table {
+    for (words, input, output, line) in REFUSED {
         let ended = run_on(rt.alloc(), words, input, &[], &[], &[]).expect(&rt, "memory");
         assert_ended(&rt, &ended, Status::Refused, line, output);
     }
 }
 
+// the type of a column, a field that spells no value of it, and the line
+const FIELDS: [(&str, &[u8], &[u8]); 5] = [
+    ("int4", b"\xff\xff\xff\xff", b"row 0 column 0: null\n"),
+    ("text", b"\xff\xff\xff\xff", b"row 0 column 0: null\n"),
+    ("int4", b"\0\0\0\x03\0\0\x2a", b"row 0 column 0: size\n"),
+    (
+        "int4?",
+        b"\0\0\0\x05\0\0\0\x2a\0",
+        b"row 0 column 0: size\n",
+    ),
+    ("text?", b"\0\0\0\x02\xc3\x28", b"row 0 column 0: utf8\n"),
+];
+
 #[test]
 fn fields_that_spell_no_value_are_refused(rt: HostRuntime) {
-    let table: [(&str, &[u8], &[u8]); 5] = [
-        ("int4", b"\xff\xff\xff\xff", b"row 0 column 0: null\n"),
-        ("text", b"\xff\xff\xff\xff", b"row 0 column 0: null\n"),
-        ("int4", b"\0\0\0\x03\0\0\x2a", b"row 0 column 0: size\n"),
-        (
-            "int4?",
-            b"\0\0\0\x05\0\0\0\x2a\0",
-            b"row 0 column 0: size\n",
-        ),
-        ("text?", b"\0\0\0\x02\xc3\x28", b"row 0 column 0: utf8\n"),
-    ];
-    for (column, field, line) in table {
+    for (column, field, line) in FIELDS {
         let mut input = Vec::from_slice(rt.alloc(), HEADER).expect(&rt, "memory");
         input.extend_from_slice(b"\0\x01").expect(&rt, "memory");
         input.extend_from_slice(field).expect(&rt, "memory");
@@ -270,15 +302,16 @@ fn fields_that_spell_no_value_are_refused(rt: HostRuntime) {
     }
 }
 
+// how many bytes of two rows stand in front of the last byte of the second number
+const FRONT: usize = 38;
+
 #[test]
 fn stream_cut_anywhere_is_refused(rt: HostRuntime) {
-    let whole: &[u8] =
-        b"PGCOPY\n\xff\r\n\0\0\0\0\0\0\0\0\0\0\x01\0\0\0\x04\0\0\0\x2a\0\x01\0\0\0\x04\0\0\0";
-    for len in 0..=whole.len() {
+    for len in 0..=FRONT {
         let ended = run_on(
             rt.alloc(),
             &["copy", "int4"],
-            &whole[..len],
+            &TWO_ROWS[..len],
             &[1; 40],
             &[],
             &[],
@@ -294,7 +327,7 @@ fn stream_cut_anywhere_is_refused(rt: HostRuntime) {
             &ended,
             Status::Refused,
             b"truncated\n",
-            &whole[..written],
+            &TWO_ROWS[..written],
         );
     }
 }

@@ -142,53 +142,54 @@ fn read_stream(alloc: Global, source: &mut MemorySource) -> Result<(), CopyReadE
     Ok(())
 }
 
-// A table of a header, what stands behind it, the error, and how many bytes were taken then.
+// a header, what stands behind it, the error, and how many bytes were taken then
+const REFUSED: [(&[u8], &[u8], CopyReadError, usize); 8] = [
+    (
+        b"PGCOPY\n\xfe\r\n\0\0\0\0\0\0\0\0\0",
+        b"\xff\xff",
+        CopyReadError::BadHeader,
+        19,
+    ),
+    (
+        b"PGCOPY\n\xff\r\n\0\0\0\0\0\xff\xff\xff\xff",
+        b"\xff\xff",
+        CopyReadError::BadHeader,
+        19,
+    ),
+    (
+        b"PGCOPY\n\xff\r\n\0\0\x01\0\0\0\0\0\0",
+        b"\xff\xff",
+        CopyReadError::BadFlags(0x1_0000),
+        19,
+    ),
+    // The magic is looked at before the flags, and these before the length of the extension.
+    (
+        b"PGCOPY\n\xff\r\n\0\x80\0\0\x01\x80\0\0\0",
+        b"\xff\xff",
+        CopyReadError::BadFlags(0x8000_0001),
+        19,
+    ),
+    (
+        HEADER,
+        b"\xff\xfe\0\0",
+        CopyReadError::BadFieldCount(-2),
+        21,
+    ),
+    (HEADER, b"\x80\0", CopyReadError::BadFieldCount(-32768), 21),
+    (HEADER, b"\0\x01\0\0\0", CopyReadError::Truncated, 24),
+    // a field that states 2147483647 bytes and holds three
+    (
+        HEADER,
+        b"\0\x01\x7f\xff\xff\xffabc",
+        CopyReadError::Truncated,
+        28,
+    ),
+];
+
 #[test]
 fn what_is_no_stream_is_refused(rt: HostRuntime) -> Result<(), Fail> {
     let alloc: Global = rt.alloc();
-    let table: [(&[u8], &[u8], CopyReadError, usize); 8] = [
-        (
-            b"PGCOPY\n\xfe\r\n\0\0\0\0\0\0\0\0\0",
-            b"\xff\xff",
-            CopyReadError::BadHeader,
-            19,
-        ),
-        (
-            b"PGCOPY\n\xff\r\n\0\0\0\0\0\xff\xff\xff\xff",
-            b"\xff\xff",
-            CopyReadError::BadHeader,
-            19,
-        ),
-        (
-            b"PGCOPY\n\xff\r\n\0\0\x01\0\0\0\0\0\0",
-            b"\xff\xff",
-            CopyReadError::BadFlags(0x1_0000),
-            19,
-        ),
-        // The magic is looked at before the flags, and these before the length of the extension.
-        (
-            b"PGCOPY\n\xff\r\n\0\x80\0\0\x01\x80\0\0\0",
-            b"\xff\xff",
-            CopyReadError::BadFlags(0x8000_0001),
-            19,
-        ),
-        (
-            HEADER,
-            b"\xff\xfe\0\0",
-            CopyReadError::BadFieldCount(-2),
-            21,
-        ),
-        (HEADER, b"\x80\0", CopyReadError::BadFieldCount(-32768), 21),
-        (HEADER, b"\0\x01\0\0\0", CopyReadError::Truncated, 24),
-        // a field that states 2147483647 bytes and holds three
-        (
-            HEADER,
-            b"\0\x01\x7f\xff\xff\xffabc",
-            CopyReadError::Truncated,
-            28,
-        ),
-    ];
-    for (header, behind, error, taken) in table {
+    for (header, behind, error, taken) in REFUSED {
         let mut bytes = header.to_vec(alloc)?;
         bytes.extend_from_slice(behind)?;
         let mut source = source_of(alloc, &bytes, &[], &[])?;

@@ -26,18 +26,20 @@ fn columns_are_listed(rt: HostRuntime) {
     );
 }
 
+// a row of the number 42 and a null
+const STREAM: &[u8] =
+    b"PGCOPY\n\xff\r\n\0\0\0\0\0\0\0\0\0\0\x02\0\0\0\x04\0\0\0\x2a\xff\xff\xff\xff\xff\xff";
+
 #[test]
 fn stream_is_copied(rt: HostRuntime) {
-    let stream: &[u8] =
-        b"PGCOPY\n\xff\r\n\0\0\0\0\0\0\0\0\0\0\x02\0\0\0\x04\0\0\0\x2a\xff\xff\xff\xff\xff\xff";
     let alloc: Global = rt.alloc();
-    let mut source = QuietSource::new(stream.to_vec(alloc).expect(&rt, "memory"));
+    let mut source = QuietSource::new(STREAM.to_vec(alloc).expect(&rt, "memory"));
     let mut sink = MemorySink::new(alloc, Vec::new(alloc), Vec::new(alloc));
     let columns = [FirstType::Int4, FirstType::TextNull];
     let limits = Limits::new(1, 4).expect(&rt, "limits");
     let copied = recopy_first(alloc, &columns, &mut source, &mut sink, limits);
     assert_eq!(rt; copied, Ok(1));
-    assert_eq!(rt; sink.gained(), stream);
+    assert_eq!(rt; sink.gained(), STREAM);
 }
 
 /// A sink that keeps how many bytes each write brought.
@@ -67,14 +69,16 @@ impl Sink for Writes {
     }
 }
 
-// A header, three rows as they stand, two whose null has another length, one as it stands, and the end.
+// three rows as they stand, two whose null has another length, and one as it stands
+const MIXED: &[u8] = b"PGCOPY\n\xff\r\n\0\0\0\0\0\0\0\0\0\
+    \0\x01\0\0\0\x04\0\0\0\x2a\0\x01\xff\xff\xff\xff\0\x01\0\0\0\x04\0\0\0\x2a\
+    \0\x01\xff\xff\xff\xfe\0\x01\x80\0\0\0\0\x01\0\0\0\x04\0\0\0\x2a\xff\xff";
+
+// The pieces are the header, the three rows, the three behind them, and the end.
 #[test]
 fn rows_that_are_shown_are_written_together(rt: HostRuntime) {
-    let stream: &[u8] = b"PGCOPY\n\xff\r\n\0\0\0\0\0\0\0\0\0\
-        \0\x01\0\0\0\x04\0\0\0\x2a\0\x01\xff\xff\xff\xff\0\x01\0\0\0\x04\0\0\0\x2a\
-        \0\x01\xff\xff\xff\xfe\0\x01\x80\0\0\0\0\x01\0\0\0\x04\0\0\0\x2a\xff\xff";
     let alloc: Global = rt.alloc();
-    let mut source = QuietSource::new(stream.to_vec(alloc).expect(&rt, "memory"));
+    let mut source = QuietSource::new(MIXED.to_vec(alloc).expect(&rt, "memory"));
     let mut sink = Writes {
         lengths: Vec::new(alloc),
     };
