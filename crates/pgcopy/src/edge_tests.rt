@@ -1,6 +1,7 @@
 use crate::about::asked;
 use crate::edge::{copy, explain, hint, tell};
 use crate::report::Status;
+use crate::test_runs::texts_of;
 use std::alloc::{AllocError, Global};
 use std::io::{Error, ErrorKind, Read, Result, Write};
 use std::process::Abort;
@@ -14,30 +15,88 @@ const CUT: &[u8] = b"PGCOPY\n\xff\r\n\0\0\0\0\0\0\0\0\0\0\x01\0\0\0\x04\0\0\0\x2
 /// The most bytes that a read gives or a write takes.
 const MOST: usize = 150000;
 
-/// Calls fail in these kinds, one after another from the one with the number `first` on, counted from 0.
+/// The kinds of errors that end a call. That of a call which a signal interrupted does not stand here.
+const KINDS: [ErrorKind; 40] = [
+    ErrorKind::BrokenPipe,
+    ErrorKind::ConnectionReset,
+    ErrorKind::TimedOut,
+    ErrorKind::NotFound,
+    ErrorKind::PermissionDenied,
+    ErrorKind::ConnectionRefused,
+    ErrorKind::HostUnreachable,
+    ErrorKind::NetworkUnreachable,
+    ErrorKind::ConnectionAborted,
+    ErrorKind::NotConnected,
+    ErrorKind::AddrInUse,
+    ErrorKind::AddrNotAvailable,
+    ErrorKind::NetworkDown,
+    ErrorKind::AlreadyExists,
+    ErrorKind::WouldBlock,
+    ErrorKind::NotADirectory,
+    ErrorKind::IsADirectory,
+    ErrorKind::DirectoryNotEmpty,
+    ErrorKind::ReadOnlyFilesystem,
+    ErrorKind::FilesystemLoop,
+    ErrorKind::StaleNetworkFileHandle,
+    ErrorKind::InvalidInput,
+    ErrorKind::InvalidData,
+    ErrorKind::WriteZero,
+    ErrorKind::StorageFull,
+    ErrorKind::NotSeekable,
+    ErrorKind::QuotaExceeded,
+    ErrorKind::FileTooLarge,
+    ErrorKind::ResourceBusy,
+    ErrorKind::ExecutableFileBusy,
+    ErrorKind::Deadlock,
+    ErrorKind::CrossesDevices,
+    ErrorKind::TooManyLinks,
+    ErrorKind::InvalidFilename,
+    ErrorKind::ArgumentListTooLong,
+    ErrorKind::Unsupported,
+    ErrorKind::UnexpectedEof,
+    ErrorKind::OutOfMemory,
+    ErrorKind::InProgress,
+    ErrorKind::Other,
+];
+
+/// The place of no kind.
+const NONE: usize = KINDS.len();
+
+/// Which calls fail: so many, one after another, as a signal interrupts them, the first of them with the number `first`,
+/// counted from 0, and then one in the kind at this place of `KINDS`, if there is one.
 #[derive(Clone, Copy)]
-struct Fails<'a> {
+struct Fails {
     first: usize,
-    kinds: &'a [ErrorKind],
+    interrupted: usize,
+    kind: usize,
 }
 
 /// No call fails.
-const NONE: Fails<'static> = Fails {
+const NEVER: Fails = Fails {
     first: 0,
-    kinds: &[],
+    interrupted: 0,
+    kind: NONE,
 };
 
-/// The kind in which the call with this number fails.
-fn kind_at(kinds: &[ErrorKind], first: usize, call: usize) -> Option<ErrorKind> {
-    kinds.get(call.checked_sub(first)?).copied()
+impl Fails {
+    /// The kind in which the call with this number fails.
+    fn kind_at(self, call: usize) -> Option<ErrorKind> {
+        let behind = call.checked_sub(self.first)?;
+        if behind < self.interrupted {
+            Some(ErrorKind::Interrupted)
+        } else if behind == self.interrupted {
+            KINDS.get(self.kind).copied()
+        } else {
+            None
+        }
+    }
 }
 
 /// A reader whose calls fail as told.
 #[derive(Drop)]
 struct Reads<'a> {
     rest: &'a [u8],
-    first: usize,
-    kinds: &'a [ErrorKind],
+    fails: Fails,
     calls: usize,
 }
 
@@ -45,7 +104,7 @@ impl Read for Reads<'_> {
     fn read(&mut self, buf: &mut [u8]) -> Result<usize> {
         let call = self.calls;
         self.calls = call.saturating_add(1);
-        if let Some(kind) = kind_at(self.kinds, self.first, call) {
+        if let Some(kind) = self.fails.kind_at(call) {
             return Err(Error::from(kind));
         }
         let len = buf.len().min(MOST);
@@ -57,8 +116,7 @@ impl Read for Reads<'_> {
 #[derive(Drop)]
 struct Writes<'a> {
     output: &'a mut Vec<u8>,
-    first: usize,
-    kinds: &'a [ErrorKind],
+    fails: Fails,
     calls: usize,
 }
 
@@ -66,7 +124,7 @@ impl Write for Writes<'_> {
     fn write(&mut self, buf: &[u8]) -> Result<usize> {
         let call = self.calls;
         self.calls = call.saturating_add(1);
-        match kind_at(self.kinds, self.first, call) {
+        match self.fails.kind_at(call) {
             Some(kind) => Err(Error::from(kind)),
             None => self.output.write(&buf[..buf.len().min(MOST)]),
         }
@@ -75,7 +133,7 @@ impl Write for Writes<'_> {
     fn flush(&mut self) -> Result<()> {
         let call = self.calls;
         self.calls = call.saturating_add(1);
-        match kind_at(self.kinds, self.first, call) {
+        match self.fails.kind_at(call) {
             Some(kind) => Err(Error::from(kind)),
             None => Ok(()),
         }
@@ -94,35 +152,29 @@ struct Ended {
 }
 
 /// Copies by these words, where the calls of the input and of the output fail as told.
-fn copy_on(
+fn ended_of(
     alloc: Global,
     words: &[&str],
     input: &[u8],
-    read_fails: Fails<'_>,
-    write_fails: Fails<'_>,
+    read_fails: Fails,
+    write_fails: Fails,
 ) -> Result<Ended> {
-    let mut texts = Vec::new(alloc);
-    for word in words {
-        texts.push(String::from_str(alloc, word)?)?;
-    }
+    let texts = texts_of(alloc, words)?;
     let mut output = Vec::new(alloc);
     let mut line = Vec::new(alloc);
     let mut reader = Reads {
         rest: input,
-        first: read_fails.first,
-        kinds: read_fails.kinds,
+        fails: read_fails,
         calls: 0,
     };
     let mut writer = Writes {
         output: &mut output,
-        first: write_fails.first,
-        kinds: write_fails.kinds,
+        fails: write_fails,
         calls: 0,
     };
     let mut errors = Writes {
         output: &mut line,
-        first: 0,
-        kinds: &[],
+        fails: NEVER,
         calls: 0,
     };
     let status = copy(alloc, &texts, &mut reader, &mut writer, &mut errors)?;
@@ -135,6 +187,18 @@ fn copy_on(
         writes,
         line_writes,
     })
+}
+
+/// The same, with memory enough.
+fn copy_on(
+    rt: &impl Abort,
+    alloc: Global,
+    words: &[&str],
+    input: &[u8],
+    read_fails: Fails,
+    write_fails: Fails,
+) -> Ended {
+    ended_of(alloc, words, input, read_fails, write_fails).expect(rt, "memory")
 }
 
 /// A stream of four rows of a text: the first is longer than the buffer of the input, the second than that of the output.
@@ -151,80 +215,112 @@ fn long_rows(alloc: Global) -> std::result::Result<Vec<u8>, AllocError> {
     Ok(bytes)
 }
 
-/// In what a call fails, one time after another, until it is answered. Signals alone do not end it.
-const KINDS: [&[ErrorKind]; 10] = [
-    &[ErrorKind::Interrupted; 300],
-    &[
-        ErrorKind::Interrupted,
-        ErrorKind::Interrupted,
-        ErrorKind::BrokenPipe,
-    ],
-    &[ErrorKind::ConnectionReset],
-    &[ErrorKind::TimedOut],
-    &[ErrorKind::BrokenPipe],
-    &[ErrorKind::OutOfMemory],
-    &[ErrorKind::Other],
-    &[ErrorKind::StorageFull],
-    &[ErrorKind::UnexpectedEof],
-    &[ErrorKind::WouldBlock],
-];
+/// How often a signal interrupts a call in these tests, before it is answered.
+const OFTEN: usize = 2000;
 
-/// Lets each call of the input and of the output fail in turn, in each of these kinds. No read is made behind the end of
-/// the stream, and none that is not needed. The last call of the output is a flush of which the status does not speak.
+/// A stream that is copied as it stands by these words, with this line.
+#[derive(Clone, Copy)]
+struct Stream<'a> {
+    words: &'a [&'a str],
+    bytes: &'a [u8],
+    line: &'a [u8],
+}
+
+/// Lets each read fail in turn.
+fn break_reads(rt: &impl Abort, alloc: Global, stream: Stream<'_>, fails: Fails) {
+    let mut fails = fails;
+    for first in 0..stream.bytes.len().div_ceil(MOST) {
+        fails.first = first;
+        let ended = copy_on(rt, alloc, stream.words, stream.bytes, fails, NEVER);
+        let written = if first == 0 { 0 } else { 19 };
+        let wanted = if fails.kind < NONE {
+            let line = b"read fault\n".as_slice();
+            (Status::Outside, line, &stream.bytes[..written])
+        } else {
+            (Status::Copied, stream.line, stream.bytes)
+        };
+        assert!(rt; (ended.status, ended.line.as_slice(), ended.output.as_slice()) == wanted);
+    }
+}
+
+/// Lets each write and flush of the output fail in turn. The last of them is a flush of which the status does not speak.
+fn break_writes(rt: &impl Abort, alloc: Global, stream: Stream<'_>, fails: Fails) {
+    let mut fails = fails;
+    let clean = copy_on(rt, alloc, stream.words, stream.bytes, NEVER, NEVER);
+    for first in 0..clean.writes {
+        fails.first = first;
+        let ended = copy_on(rt, alloc, stream.words, stream.bytes, NEVER, fails);
+        let output = ended.output.as_slice();
+        let wanted = if fails.kind < NONE && first + 1 < clean.writes {
+            let front = &stream.bytes[..output.len().min(stream.bytes.len())];
+            (Status::Outside, b"write fault\n".as_slice(), front)
+        } else {
+            (Status::Copied, stream.line, stream.bytes)
+        };
+        assert!(rt; (ended.status, ended.line.as_slice(), output) == wanted);
+    }
+}
+
+/// Lets each call of the input and of the output fail in turn: as a signal interrupts it, so many times, and then in a
+/// kind, if there is one.
 fn break_calls(
     rt: &impl Abort,
     alloc: Global,
-    words: &[&str],
-    stream: &[u8],
-    all_kinds: &[&[ErrorKind]],
+    stream: Stream<'_>,
+    interrupted: usize,
+    kind: usize,
 ) {
-    let clean = copy_on(alloc, words, stream, NONE, NONE).expect(rt, "memory");
-    assert!(rt; clean.status == Status::Copied);
-    assert!(rt; clean.output.as_slice() == stream);
-    assert!(rt; clean.reads == stream.len().div_ceil(MOST));
-    for kinds in all_kinds {
-        let kinds = *kinds;
-        let is_final = kinds.len() < 300;
-        for first in 0..clean.reads {
-            let fails = Fails { first, kinds };
-            let ended = copy_on(alloc, words, stream, fails, NONE).expect(rt, "memory");
-            let written = match (is_final, first) {
-                (false, _) => stream.len(),
-                (true, 0) => 0,
-                (true, _) => 19,
-            };
-            assert!(rt; (ended.status == Status::Outside) == is_final);
-            assert!(rt; (ended.line.as_slice() == b"read fault\n".as_slice()) == is_final);
-            assert!(rt; ended.output.as_slice() == &stream[..written]);
-        }
-        for first in 0..clean.writes {
-            let fails = Fails { first, kinds };
-            let ended = copy_on(alloc, words, stream, NONE, fails).expect(rt, "memory");
-            let is_told = is_final && first + 1 < clean.writes;
-            assert!(rt; (ended.status == Status::Outside) == is_told);
-            assert!(rt; (ended.line.as_slice() == b"write fault\n".as_slice()) == is_told);
-            assert!(rt; stream.starts_with(&ended.output));
-            assert!(rt; is_told || ended.output.len() == stream.len());
-        }
-    }
+    let fails = Fails {
+        first: 0,
+        interrupted,
+        kind,
+    };
+    break_reads(rt, alloc, stream, fails);
+    break_writes(rt, alloc, stream, fails);
 }
 
 #[test]
 fn a_call_that_fails_is_told_and_one_that_a_signal_interrupted_is_made_again(rt: HostRuntime) {
     let alloc = rt.alloc();
-    break_calls(&rt, alloc, &["copy", "int4"], ONE_ROW, KINDS.as_slice());
-    let stream = long_rows(alloc).expect(&rt, "memory");
-    break_calls(&rt, alloc, &["copy", "text"], &stream, &KINDS[..4]);
+    let short = Stream {
+        words: &["copy", "int4"],
+        bytes: ONE_ROW,
+        line: b"rows 1\n",
+    };
+    for kind in 0..NONE {
+        break_calls(&rt, alloc, short, 0, kind);
+    }
+    break_calls(&rt, alloc, short, OFTEN, NONE);
+    let rows = long_rows(alloc).expect(&rt, "memory");
+    let long = Stream {
+        words: &["copy", "text"],
+        bytes: &rows,
+        line: b"rows 4\n",
+    };
+    let clean = copy_on(&rt, alloc, long.words, &rows, NEVER, NEVER);
+    assert!(rt; clean.reads == rows.len().div_ceil(MOST));
+    for kind in 0..3 {
+        break_calls(&rt, alloc, long, 2, kind);
+    }
+    break_calls(&rt, alloc, long, OFTEN, NONE);
 }
 
-// words, a stream, the status, the line, and how many calls the output gets
-const ENDS: [(&[&str], &[u8], Status, &[u8], usize); 3] = [
-    (&["copy", "int4"], ONE_ROW, Status::Copied, b"rows 1\n", 3),
+// words, a stream, the status, the line, and how many calls the input and the output get
+const ENDS: [(&[&str], &[u8], Status, &[u8], usize, usize); 3] = [
+    (
+        &["copy", "int4"],
+        ONE_ROW,
+        Status::Copied,
+        b"rows 1\n",
+        1,
+        3,
+    ),
     (
         &["copy", "int4"],
         CUT,
         Status::Refused,
         b"truncated\n",
+        3,
         2,
     ),
     (
@@ -232,20 +328,18 @@ const ENDS: [(&[&str], &[u8], Status, &[u8], usize); 3] = [
         ONE_ROW,
         Status::Words,
         b"word 1: missing type\n",
+        0,
         1,
     ),
 ];
 
-// The line is written once and flushed, and the output is flushed behind a refusal, too.
+// No read is made that is not needed. The line is written once and flushed, and the output is flushed behind a refusal, too.
 #[test]
 fn what_came_of_a_copy_is_told(rt: HostRuntime) {
-    for (words, input, status, line, writes) in ENDS {
-        let ended = copy_on(rt.alloc(), words, input, NONE, NONE).expect(&rt, "memory");
-        assert!(rt; ended.status == status);
-        assert!(rt; ended.line.as_slice() == line);
-        assert!(rt; status == Status::Words || ended.output.as_slice() == input);
-        assert!(rt; ended.writes == writes);
-        assert!(rt; ended.line_writes == 2);
+    for (words, input, status, line, reads, writes) in ENDS {
+        let ended = copy_on(&rt, rt.alloc(), words, input, NEVER, NEVER);
+        assert!(rt; (ended.status, ended.line.as_slice()) == (status, line));
+        assert!(rt; (ended.reads, ended.writes, ended.line_writes) == (reads, writes, 2));
     }
 }
 
@@ -274,28 +368,25 @@ const ASKED: [(&[&str], &str); 5] = [
 fn help_is_asked_for_by_one_word(rt: HostRuntime) {
     let alloc = rt.alloc();
     for (given, begin) in ASKED {
-        let mut words = Vec::new(alloc);
-        for word in given {
-            let word = String::from_str(alloc, word).expect(&rt, "memory");
-            words.push(word).expect(&rt, "memory");
-        }
+        let words = texts_of(alloc, given).expect(&rt, "memory");
         let text = asked(&words).unwrap_or("");
-        assert!(rt; text.starts_with(begin));
-        assert!(rt; text.is_empty() == begin.is_empty());
+        assert!(rt; text.starts_with(begin) && text.is_empty() == begin.is_empty());
     }
-    for kinds in KINDS {
-        let is_final = kinds.len() < 300;
+    for kind in 0..=NONE {
         for first in 0..3 {
             let mut output = Vec::new(alloc);
             let mut errors = Vec::<u8>::new(alloc);
             let writer = Writes {
                 output: &mut output,
-                first,
-                kinds,
+                fails: Fails {
+                    first,
+                    interrupted: 3,
+                    kind,
+                },
                 calls: 0,
             };
             tell("text", writer, &mut errors);
-            let is_told = is_final && first < 2;
+            let is_told = kind < NONE && first < 2;
             assert!(rt; errors.is_empty() != is_told);
             assert!(rt; b"write fault\n".starts_with(&errors));
             assert!(rt; is_told || output.as_slice() == b"text".as_slice());

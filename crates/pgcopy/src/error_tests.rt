@@ -41,7 +41,13 @@ const READ: [(CopyReadError, &str); 6] = [
     (CopyReadError::NoMemory, "out of memory"),
 ];
 
-const COPIED: [(CopyFault, &str); 5] = [
+const COPIED: [(CopyFault, &str); 11] = [
+    (CopyFault::BadHeader, "bad header"),
+    (CopyFault::BadFlags(0x8001ab), "bad flags 008001AB"),
+    (CopyFault::Truncated, "truncated"),
+    (CopyFault::BadFieldCount(-2), "bad field count -2"),
+    (CopyFault::ReadFault, "read fault"),
+    (CopyFault::NoMemory, "out of memory"),
     (
         CopyFault::UnexpectedEndOfRow { row: 3 },
         "row 3: too few fields",
@@ -88,8 +94,6 @@ fn errors_have_their_texts(rt: HostRuntime) {
     let alloc = rt.alloc();
     assert_eq!(rt; first_other(alloc, &BREAKS), Ok(None));
     assert_eq!(rt; first_other(alloc, &READ), Ok(None));
-    let passed_on = READ.map(|(error, text)| (CopyFault::from(error), text));
-    assert_eq!(rt; first_other(alloc, &passed_on), Ok(None));
     assert_eq!(rt; first_other(alloc, &COPIED), Ok(None));
     assert_eq!(rt; first_other(alloc, &WORDS), Ok(None));
     assert_eq!(rt; first_other(alloc, &PLACED), Ok(None));

@@ -15,6 +15,8 @@ mod seam_cases;
 #[cfg(test)]
 mod seam_tests;
 #[cfg(test)]
+mod test_runs;
+#[cfg(test)]
 mod tests;
 mod words;
 #[cfg(test)]

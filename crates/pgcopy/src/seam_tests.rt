@@ -2,9 +2,9 @@
 //! cut and break the calls of both sides at each place, so that each seam between the ways is met.
 
 use crate::report::Status;
-use crate::run::run;
 use crate::seam_cases::{CASES, Case, HEADER, NULL, NULL_TWO};
-use pgw_wire::{BufReadSource, MemorySink, MemorySource, QuietSource, Sink, Source};
+use crate::test_runs::{run_on, texts_of};
+use pgw_wire::{BufReadSource, MemorySource, QuietSource, Sink, Source};
 use std::alloc::{AllocError, Global};
 use std::io;
 use std::io::{BufReader, Error, ErrorKind, Read};
@@ -57,13 +57,9 @@ struct Prepared {
 
 /// Makes what a case is run on.
 fn prepare(alloc: Global, case: Case) -> Result<Prepared, AllocError> {
-    let mut words = Vec::new(alloc);
-    for word in case.words {
-        words.push(String::from_str(alloc, word)?)?;
-    }
     Ok(Prepared {
         case,
-        words,
+        words: texts_of(alloc, case.words)?,
         input: case.input(alloc)?,
         output: case.output(alloc)?,
     })
@@ -92,50 +88,52 @@ fn left_of<S: Source>(source: &mut S) -> usize {
     left
 }
 
+/// The status and the line of a run in which a read failed, or a call of the sink, or none.
+fn told(case: &Case, read_failed: bool, write_failed: bool) -> (Status, &'static [u8]) {
+    if read_failed {
+        return (Status::Outside, b"read fault\n");
+    }
+    if write_failed {
+        return (Status::Outside, b"write fault\n");
+    }
+    (case.status, case.line)
+}
+
+/// Whether a read is needed behind so many bytes: they are not all that is taken, or the stream is cut there.
+fn is_needed(case: &Case, taken: usize) -> bool {
+    taken < case.taken_at(usize::MAX) || case.line == b"truncated\n".as_slice()
+}
+
 /// Runs on the source, looks at all that came of it, and answers whether a call failed.
-fn run_on<R: Abort, S: Source>(
-    rt: &R,
+fn check_on<S: Source>(
+    rt: &impl Abort,
     alloc: Global,
     prepared: &Prepared,
     source: &mut S,
     calls: Calls,
 ) -> bool {
     let cuts = cuts_of(alloc, calls.write_most).expect(rt, "memory");
-    let fails = [calls.write_fail].to_vec(alloc).expect(rt, "memory");
-    let mut sink = MemorySink::new(alloc, cuts, fails);
-    let mut notes = MemorySink::new(alloc, Vec::new(alloc), Vec::new(alloc));
-    let status = run(alloc, &prepared.words, source, &mut sink, &mut notes);
-    let case = prepared.case;
+    let fail = calls.write_fail;
+    let ended = run_on(alloc, &prepared.words, source, cuts, fail).expect(rt, "memory");
     let read_failed = source.faults() > 0;
-    let write_failed = sink.faults() > 0;
-    let written = sink.gained().len();
+    let write_failed = ended.output.faults() > 0;
+    let written = ended.output.gained().len();
     let taken = prepared.input.len().saturating_sub(left_of(source));
-    let whole = case.taken_at(usize::MAX);
-    let (wanted, line, written_wanted, taken_wanted): (Status, &[u8], usize, usize) =
-        if read_failed {
-            (
-                Status::Outside,
-                b"read fault\n",
-                case.written_at(taken),
-                taken,
-            )
-        } else if write_failed {
-            (
-                Status::Outside,
-                b"write fault\n",
-                written,
-                case.taken_at(written),
-            )
-        } else {
-            (case.status, case.line, prepared.output.len(), whole)
-        };
-    assert_eq!(rt; status, wanted);
-    assert_eq!(rt; notes.gained(), line);
-    assert_eq!(rt; written, written_wanted);
-    assert_eq!(rt; taken, taken_wanted);
-    assert!(rt; prepared.output.starts_with(sink.gained()));
-    assert!(rt; !read_failed || taken < whole || case.line == b"truncated\n".as_slice());
-    read_failed || write_failed
+    let case = &prepared.case;
+    let wanted = if read_failed {
+        (case.written_at(taken), taken)
+    } else {
+        (written, case.taken_at(written))
+    };
+    assert_eq!(rt;
+        (ended.status, ended.line.gained()),
+        told(case, read_failed, write_failed)
+    );
+    assert_eq!(rt; (written, taken), wanted);
+    assert!(rt; read_failed || write_failed || written == prepared.output.len());
+    assert!(rt; !read_failed || is_needed(case, taken));
+    assert!(rt; prepared.output.starts_with(ended.output.gained()));
+    read_failed | write_failed
 }
 
 /// What a case is run over: a source that shows no bytes, one that shows all, or one that shows what stands in its buffer
@@ -155,12 +153,12 @@ fn run_over(rt: &impl Abort, alloc: Global, prepared: &Prepared, over: Over, cal
             let cuts = cuts_of(alloc, calls.read_most).expect(rt, "memory");
             let fails = [calls.read_fail].to_vec(alloc).expect(rt, "memory");
             let mut source = MemorySource::new(bytes, cuts, fails);
-            run_on(rt, alloc, prepared, &mut source, calls)
+            check_on(rt, alloc, prepared, &mut source, calls)
         }
         Over::Quiet => {
             let bytes = prepared.input.to_vec(alloc).expect(rt, "memory");
             let mut source = QuietSource::new(bytes);
-            run_on(rt, alloc, prepared, &mut source, calls)
+            check_on(rt, alloc, prepared, &mut source, calls)
         }
         Over::Buffer(capacity) => {
             let pieces = Pieces {
@@ -171,7 +169,7 @@ fn run_over(rt: &impl Abort, alloc: Global, prepared: &Prepared, over: Over, cal
             };
             let reader = BufReader::with_capacity(alloc, capacity, pieces).expect(rt, "memory");
             let mut source = BufReadSource::new(reader);
-            run_on(rt, alloc, prepared, &mut source, calls)
+            check_on(rt, alloc, prepared, &mut source, calls)
         }
     }
 }
@@ -265,19 +263,16 @@ fn no_read_is_made_behind_the_bytes_that_suffice(rt: HostRuntime) {
     }
 }
 
-/// How many bytes are taken of a source that shows all, where the sink fails behind so many bytes.
-fn taken_behind(rt: &impl Abort, alloc: Global, case: Case, written: usize) -> usize {
-    let prepared = prepare(alloc, case).expect(rt, "memory");
-    let bytes = prepared.input.to_vec(alloc).expect(rt, "memory");
-    let mut source = QuietSource::new(bytes);
-    let cuts = cuts_of(alloc, 1).expect(rt, "memory");
-    let fails = [written as u64].to_vec(alloc).expect(rt, "memory");
-    let mut sink = MemorySink::new(alloc, cuts, fails);
-    let mut notes = MemorySink::new(alloc, Vec::new(alloc), Vec::new(alloc));
-    let status = run(alloc, &prepared.words, &mut source, &mut sink, &mut notes);
-    assert_eq!(rt; status, Status::Outside);
-    assert_eq!(rt; sink.gained().len(), written);
-    prepared.input.len().saturating_sub(left_of(&mut source))
+/// How many bytes are written and taken of a source that shows all, where each write takes one, and the sink fails behind so
+/// many.
+fn moved_behind(alloc: Global, case: Case, written: usize) -> Result<(usize, usize), AllocError> {
+    let prepared = prepare(alloc, case)?;
+    let mut source = QuietSource::new(prepared.input.to_vec(alloc)?);
+    let cuts = cuts_of(alloc, 1)?;
+    let fail = written as u64;
+    let ended = run_on(alloc, &prepared.words, &mut source, cuts, fail)?;
+    let taken = prepared.input.len().saturating_sub(left_of(&mut source));
+    Ok((ended.output.gained().len(), taken))
 }
 
 // how many bytes the sink gets before it fails, and how many are taken then, of four rows that are canonical as they stand
@@ -315,10 +310,16 @@ const SPELLED_OTHERWISE: [(usize, usize); 11] = [
 fn rows_through_the_one_in_which_the_sink_failed_are_taken(rt: HostRuntime) {
     let alloc = rt.alloc();
     for (written, taken) in AS_THEY_STAND {
-        assert_eq!(rt; taken_behind(&rt, alloc, CASES[1], written), taken);
+        assert_eq!(rt;
+            moved_behind(alloc, CASES[1], written),
+            Ok((written, taken))
+        );
     }
     for (written, taken) in SPELLED_OTHERWISE {
-        assert_eq!(rt; taken_behind(&rt, alloc, CASES[3], written), taken);
+        assert_eq!(rt;
+            moved_behind(alloc, CASES[3], written),
+            Ok((written, taken))
+        );
     }
 }
 
@@ -332,33 +333,36 @@ fn repeated(alloc: Global, row: &[u8], many: usize, tail: &[u8]) -> Result<Vec<u
     Ok(bytes)
 }
 
+/// Copies so many rows of which the null has another length, where the sink's call with this number fails. Answers whether
+/// what is written is a front of the canonical stream, the status, and how many bytes are written and left.
+fn respell_many(
+    alloc: Global,
+    many: usize,
+    fail: u64,
+) -> Result<(bool, Status, usize, usize), AllocError> {
+    let prepared = prepare(alloc, CASES[2])?;
+    let output = repeated(alloc, NULL, many, b"\xff\xff")?;
+    let mut source = QuietSource::new(repeated(alloc, NULL_TWO, many, b"\xff\xff")?);
+    let cuts = Vec::new(alloc);
+    let ended = run_on(alloc, &prepared.words, &mut source, cuts, fail)?;
+    let written = ended.output.gained();
+    let is_front = output.starts_with(written);
+    Ok((is_front, ended.status, written.len(), left_of(&mut source)))
+}
+
 // The rows have 42000 bytes, and the canonical ones too: more than are spelled before some are written.
 #[test]
 fn many_rows_that_are_spelled_otherwise_are_copied(rt: HostRuntime) {
     let alloc = rt.alloc();
-    let prepared = prepare(alloc, CASES[2]).expect(&rt, "memory");
-    let output = repeated(alloc, NULL, 3000, b"\xff\xff").expect(&rt, "memory");
-    for (fail, status, line) in [
-        (NEVER, Status::Copied, b"rows 3000\n".as_slice()),
-        (2, Status::Outside, b"write fault\n".as_slice()),
-    ] {
-        let input = repeated(alloc, NULL_TWO, 3000, b"\xff\xff").expect(&rt, "memory");
-        let mut source = QuietSource::new(input);
-        let fails = [fail].to_vec(alloc).expect(&rt, "memory");
-        let mut sink = MemorySink::new(alloc, Vec::new(alloc), fails);
-        let mut notes = MemorySink::new(alloc, Vec::new(alloc), Vec::new(alloc));
-        let ended = run(alloc, &prepared.words, &mut source, &mut sink, &mut notes);
-        assert_eq!(rt; ended, status);
-        assert_eq!(rt; notes.gained(), line);
-        assert!(rt; output.starts_with(sink.gained()));
-        let written = sink.gained().len();
-        let left = left_of(&mut source);
-        if status == Status::Copied {
-            assert_eq!(rt; (written, left), (42021, 0));
-        } else {
-            // the sink failed in front of a row, which was taken
-            assert_eq!(rt; written % 14, 19 % 14);
-            assert_eq!(rt; written.saturating_add(left), 42021 - 14);
-        }
-    }
+    assert_eq!(rt;
+        respell_many(alloc, 3000, NEVER),
+        Ok((true, Status::Copied, 42021, 0))
+    );
+    let failed = respell_many(alloc, 3000, 2).expect(&rt, "memory");
+    let (is_front, status, written, left) = failed;
+    // The sink failed in front of a row, which was taken.
+    assert_eq!(rt;
+        (is_front, status, written % 14, written.saturating_add(left)),
+        (true, Status::Outside, 19 % 14, 42021 - 14)
+    );
 }
