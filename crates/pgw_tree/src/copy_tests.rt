@@ -5,7 +5,7 @@ ghost use Rattle.pgw_copy.specs.State.{ready};
 
 use pgw_copy::{CopyReadError, CopyReader, CopyWriter, RawRow};
 use pgw_wire::{Failed, MemorySink, MemorySource, NoMemory, RawCell, Sink, Source};
-use std::alloc::Global;
+use std::alloc::{AllocError, Global};
 use std::test::Fail;
 
 const HEADER: &[u8] = b"PGCOPY\n\xff\r\n\0\0\0\0\0\0\0\0\0";
@@ -25,7 +25,7 @@ fn put_row(writer: &mut CopyWriter) -> Result<(), NoMemory>
 }
 
 /// Writes the stream, as far as no call fails. Memory that is refused counts as a failed call.
-fn write_stream(alloc: Global, sink: &mut MemorySink) -> Result<(), Failed> {
+fn write_stream<K: Sink>(alloc: Global, sink: &mut K) -> Result<(), Failed> {
     let mut writer = CopyWriter::new(alloc);
     writer.header(sink)?;
     put_row(&mut writer).map_err(|_| Failed)?;
@@ -35,20 +35,24 @@ fn write_stream(alloc: Global, sink: &mut MemorySink) -> Result<(), Failed> {
     writer.trailer(sink)
 }
 
+/// The sink to which the stream was written, of which each write took at most as many bytes as the cuts say, and the call
+/// with this number failed; and whether the writing failed.
+fn written_to(alloc: Global, cuts: &[usize], fail: u64) -> Result<(MemorySink, bool), AllocError> {
+    let mut sink = MemorySink::new(alloc, cuts.to_vec(alloc)?, [fail].to_vec(alloc)?);
+    let failed = write_stream(alloc, &mut sink).is_err();
+    Ok((sink, failed))
+}
+
 // Each write takes one byte, and in turn each write fails, and the flush.
 #[test]
 fn a_stream_is_written_up_to_the_call_that_fails(rt: HostRuntime) -> Result<(), Fail> {
     let alloc: Global = rt.alloc();
     for fail in 0..=STREAM.len() {
-        let cuts = [1; 64].to_vec(alloc)?;
-        let mut sink = MemorySink::new(alloc, cuts, [fail as u64].to_vec(alloc)?);
-        assert!(rt; write_stream(alloc, &mut sink).is_err());
-        assert!(rt; sink.gained() == &STREAM[..fail]);
-        assert!(rt; sink.faults() == 1);
+        let (sink, failed) = written_to(alloc, &[1; 64], fail as u64)?;
+        assert!(rt; (failed, sink.gained(), sink.faults()) == (true, &STREAM[..fail], 1));
     }
-    let mut sink = MemorySink::new(alloc, Vec::new(alloc), Vec::new(alloc));
-    write_stream(alloc, &mut sink)?;
-    assert!(rt; sink.gained() == STREAM);
+    let (sink, failed) = written_to(alloc, &[], u64::MAX)?;
+    assert!(rt; (failed, sink.gained()) == (false, STREAM));
     Ok(())
 }
 
@@ -66,7 +70,7 @@ fn source_of(
     bytes: &[u8],
     cuts: &[usize],
     fails: &[u64],
-) -> Result<MemorySource, Fail> {
+) -> Result<MemorySource, AllocError> {
     Ok(MemorySource::new(
         bytes.to_vec(alloc)?,
         cuts.to_vec(alloc)?,
@@ -84,9 +88,9 @@ fn has_cell(row: &RawRow<'_>, place: usize, wanted: Option<&[u8]>) -> bool {
 }
 
 /// How many fields the next row has, or None at the end. Its contract shows what a caller of `next_row` learns.
-fn next_len(
+fn next_len<S: Source>(
     reader: &mut CopyReader,
-    source: &mut MemorySource,
+    source: &mut S,
 ) -> Result<Option<usize>, CopyReadError>
     requires { reader.old ≡ ready }
     ensures { IfOk result (λ len. reader.new ≡ record { pending = None; over = is_none len }) }
@@ -109,37 +113,49 @@ fn a_stream_is_read(rt: HostRuntime) -> Result<(), Fail> {
         let Some(row) = reader.next_row(&mut source)? else {
             return Err(Fail::from("no row"));
         };
-        assert!(rt; row.len() == 3);
-        assert!(rt; has_cell(&row, 0, Some(b"hi")));
-        assert!(rt; has_cell(&row, 1, None));
-        assert!(rt; has_cell(&row, 2, Some(b"")));
-        assert!(rt; row.get(3).is_none());
+        let cells = (
+            has_cell(&row, 0, Some(b"hi")),
+            has_cell(&row, 1, None),
+            has_cell(&row, 2, Some(b"")),
+        );
+        assert!(rt; cells == (true, true, true));
+        assert!(rt; (row.len(), row.get(3).is_none()) == (3, true));
         assert!(rt; row.as_bytes() == &OTHER[24..40]);
         assert!(rt; source.taken() == 40);
         let Some(count) = reader.next_count(&mut source)? else {
             return Err(Fail::from("no second row"));
         };
-        assert!(rt; count == 1);
-        assert!(rt; reader.pending() == Some(1));
-        assert!(rt; source.taken() == 42);
+        assert!(rt; (count, reader.pending(), source.taken()) == (1, Some(1), 42));
         let row = reader.read_fields(&mut source)?;
-        assert!(rt; has_cell(&row, 0, Some(b"x")));
-        assert!(rt; row.as_bytes() == &OTHER[40..47]);
-        assert!(rt; !reader.is_over());
-        assert!(rt; next_len(&mut reader, &mut source)?.is_none());
-        assert!(rt; reader.is_over());
+        assert!(rt; (has_cell(&row, 0, Some(b"x")), row.as_bytes()) == (true, &OTHER[40..47]));
+        let was_over = reader.is_over();
+        let end = next_len(&mut reader, &mut source)?;
+        assert!(rt; (was_over, end, reader.is_over()) == (false, None, true));
         assert!(rt; source.taken() == OTHER_LEN);
     }
     Ok(())
 }
 
 /// Reads a header, two rows and the end, as far as there are any.
-fn read_stream(alloc: Global, source: &mut MemorySource) -> Result<(), CopyReadError> {
+fn read_stream<S: Source>(alloc: Global, source: &mut S) -> Result<(), CopyReadError> {
     let mut reader = CopyReader::start(alloc, source)?;
     if next_len(&mut reader, source)?.is_some() && next_len(&mut reader, source)?.is_some() {
         next_len(&mut reader, source)?;
     }
     Ok(())
+}
+
+/// What the reading of these bytes comes to, and how many of them are taken. The reads are cut and fail as told for
+/// `MemorySource::new`.
+fn read_on(
+    alloc: Global,
+    bytes: &[u8],
+    cuts: &[usize],
+    fails: &[u64],
+) -> Result<(Result<(), CopyReadError>, usize), AllocError> {
+    let mut source = source_of(alloc, bytes, cuts, fails)?;
+    let read = read_stream(alloc, &mut source);
+    Ok((read, source.taken()))
 }
 
 // a header, what stands behind it, the error, and how many bytes were taken then
@@ -192,9 +208,8 @@ fn what_is_no_stream_is_refused(rt: HostRuntime) -> Result<(), Fail> {
     for (header, behind, error, taken) in REFUSED {
         let mut bytes = header.to_vec(alloc)?;
         bytes.extend_from_slice(behind)?;
-        let mut source = source_of(alloc, &bytes, &[], &[])?;
-        assert!(rt; read_stream(alloc, &mut source) == Err(error));
-        assert!(rt; source.taken() == taken);
+        let ended = read_on(alloc, &bytes, &[], &[])?;
+        assert!(rt; ended == (Err(error), taken));
     }
     Ok(())
 }
@@ -204,15 +219,11 @@ fn what_is_no_stream_is_refused(rt: HostRuntime) -> Result<(), Fail> {
 fn a_stream_that_breaks_off_is_told(rt: HostRuntime) -> Result<(), Fail> {
     let alloc: Global = rt.alloc();
     for place in 0..OTHER_LEN {
-        let mut source = source_of(alloc, &OTHER[..place], &[], &[])?;
-        assert!(rt; read_stream(alloc, &mut source) == Err(CopyReadError::Truncated));
-        assert!(rt; source.taken() == place);
-        let mut source = source_of(alloc, OTHER, &[1; 64], &[place as u64])?;
-        assert!(rt; read_stream(alloc, &mut source) == Err(CopyReadError::ReadFault));
-        assert!(rt; source.taken() == place);
+        let ended = read_on(alloc, &OTHER[..place], &[], &[])?;
+        assert!(rt; ended == (Err(CopyReadError::Truncated), place));
+        let ended = read_on(alloc, OTHER, &[1; 64], &[place as u64])?;
+        assert!(rt; ended == (Err(CopyReadError::ReadFault), place));
     }
-    let mut source = source_of(alloc, OTHER, &[], &[])?;
-    read_stream(alloc, &mut source)?;
-    assert!(rt; source.taken() == OTHER_LEN);
+    assert!(rt; read_on(alloc, OTHER, &[], &[])? == (Ok(()), OTHER_LEN));
     Ok(())
 }

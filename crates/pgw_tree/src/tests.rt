@@ -1,7 +1,7 @@
-ghost use Rattle.std.specs.Prelude.{None};
+ghost use Rattle.std.specs.Prelude.{◌≤◌, None, length};
 
-use crate::{FirstList, FirstType, Limits, recopy_first};
-use pgw_wire::{Failed, MemorySink, QuietSource, Sink};
+use crate::{CopyFault, FirstList, FirstType, Limits, recopy_first};
+use pgw_wire::{Failed, MemorySink, QuietSource, Sink, Source};
 use std::alloc::Global;
 
 #[test]
@@ -26,6 +26,20 @@ fn columns_are_listed(rt: HostRuntime) {
     );
 }
 
+/// Copies, for the tests: what they learn of it is what they look at.
+fn copy<S: Source, K: Sink>(
+    alloc: Global,
+    columns: &[FirstType],
+    source: &mut S,
+    sink: &mut K,
+    limits: Limits,
+) -> Result<u64, CopyFault>
+    requires some { 1 ≤ length columns.now }
+    requires few { length columns.now ≤ 32767 }
+{
+    recopy_first(alloc, columns, source, sink, limits)
+}
+
 // a row of the number 42 and a null
 const STREAM: &[u8] =
     b"PGCOPY\n\xff\r\n\0\0\0\0\0\0\0\0\0\0\x02\0\0\0\x04\0\0\0\x2a\xff\xff\xff\xff\xff\xff";
@@ -37,9 +51,8 @@ fn stream_is_copied(rt: HostRuntime) {
     let mut sink = MemorySink::new(alloc, Vec::new(alloc), Vec::new(alloc));
     let columns = [FirstType::Int4, FirstType::TextNull];
     let limits = Limits::new(1, 4).expect(&rt, "limits");
-    let copied = recopy_first(alloc, &columns, &mut source, &mut sink, limits);
-    assert_eq!(rt; copied, Ok(1));
-    assert_eq!(rt; sink.gained(), STREAM);
+    let copied = copy(alloc, &columns, &mut source, &mut sink, limits);
+    assert_eq!(rt; (copied, sink.gained()), (Ok(1), STREAM));
 }
 
 /// A sink that keeps how many bytes each write brought.
@@ -84,7 +97,7 @@ fn rows_that_are_shown_are_written_together(rt: HostRuntime) {
     };
     let columns = [FirstType::Int4Null];
     let limits = Limits::new(6, 4).expect(&rt, "limits");
-    let copied = recopy_first(alloc, &columns, &mut source, &mut sink, limits);
-    assert_eq!(rt; copied, Ok(6));
-    assert_eq!(rt; sink.lengths.as_slice(), [19, 26, 22, 2].as_slice());
+    let copied = copy(alloc, &columns, &mut source, &mut sink, limits);
+    let lengths = sink.lengths.as_slice();
+    assert_eq!(rt; (copied, lengths), (Ok(6), [19, 26, 22, 2].as_slice()));
 }
