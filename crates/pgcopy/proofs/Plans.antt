@@ -486,3 +486,10 @@ for_no_plan words P h none = told (plan_of words) h ((no_plan words).1 none)
     told : (r : Result PlanData PlacedFault) → IfErr r (λ _. P) → IsErr r → P
     told (Ok plan) h e = absurd (cc)
     told (Err wrong) h e = h
+
+pub fault_of_no_plan : {A : Type 0} (words : List (String A)) → HasNoPlan (texts words) → (wrong : PlacedFault) × IsFirstFault (texts words) wrong
+fault_of_no_plan words none = told (plan_of words) refl ((no_plan words).1 none)
+  where
+    told : (r : Result PlanData PlacedFault) → plan_of words ≡ r → IsErr r → (wrong : PlacedFault) × IsFirstFault (texts words) wrong
+    told (Ok plan) is e = absurd (cc)
+    told (Err wrong) is e = (wrong, found_is_first (texts words) wrong is)

@@ -15,7 +15,7 @@ column with a ? may be null.
 
 options, in front of the types, each at most once:
   rows=N   refuse a stream of more than N rows, N up to 18446744073709551615
-  field=N  refuse a field of more than N bytes, N up to 2147483647
+  field=N  refuse a value of more than N bytes, N up to 2147483647
 
 exit status:
   0  the whole stream was copied

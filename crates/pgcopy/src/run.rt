@@ -93,6 +93,7 @@ pub fn run<S: Source, K: Sink, N: Sink>(
 ) -> Status
     // The words alone decide on status 1, and there nothing is read or written.
     ensures words { (result ≡ Status.Words) ↔ HasNoPlan (texts words.now) }
+    ensures first_fault { HasNoPlan (texts words.now) → (wrong : PlacedFault) × IsFirstFault (texts words.now) wrong }
     ensures words_line { (wrong : PlacedFault) → IsFirstFault (texts words.now) wrong
         → WroteUnlessFailed (N.state notes.old) (N.state notes.new) (line_of (Outcome.BadWord wrong.place wrong.fault)) }
     ensures source_untouched { HasNoPlan (texts words.now) → source.new ≡ source.old }

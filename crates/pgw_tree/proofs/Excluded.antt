@@ -163,14 +163,14 @@ value_at most (u ∷ us) after t (c ∷ cs) rest cell (v ∷ vs) each s fit = va
 
 breaks_fit : (limits : Limits) (ts : List Shape) (cells : List Cell) (column : ℕ) (kind : Break) → BreaksAt limits.field_max ts cells column kind → SpellsFit limits ts cells → ⊥
 breaks_fit limits ts cells column kind b s =
-    let i = b.behind in
+    let i = b.placed in
     let at = subst (λ (us : List Shape). SpellsFit limits us (i.spelling ++ (b.cell ∷ i.rest))) i.columns_are (subst (λ (cs : List Cell). SpellsFit limits ts cs) i.cells_are s) in
     let v = value_at limits.field_max i.before i.after b.t i.spelling i.rest b.cell at.0 i.each at.1 at.2 in
     breaks_or_spells b.t b.cell v.0 kind v.1 b.breaks
 
 long_fit : (limits : Limits) (ts : List Shape) (cells : List Cell) (column : ℕ) → IsLongAt limits.field_max ts cells column → SpellsFit limits ts cells → ⊥
 long_fit limits ts cells column b s =
-    let i = b.behind in
+    let i = b.placed in
     let at = subst (λ (us : List Shape). SpellsFit limits us (i.spelling ++ (b.cell ∷ i.rest))) i.columns_are (subst (λ (cs : List Cell). SpellsFit limits ts cs) i.cells_are s) in
     let v = value_at limits.field_max i.before i.after b.t i.spelling i.rest b.cell at.0 i.each at.1 at.2 in
     b.long (subst (λ (w : Value). Fits limits.field_max b.t w) (value_once b.t b.cell v.0 b.value v.1 b.spells) v.2)

@@ -84,7 +84,7 @@ few_fields = unexpected_end_of_row [] refl (record { allowed = lit< tt; is = emp
 
 -- A null breaks, in any row that may be copied.
 pub null_value : (row : ℕ) → row < 18446744073709551615 → RowCause default_limits columns row (BadValue row 0 Null) (0 ∷ 1 ∷ 255 ∷ 255 ∷ 255 ∷ 255 ∷ [])
-null_value row allowed = bad_value (None ∷ []) 0 Null refl (record { allowed = allowed; is = null_row }) (record { enough = lit≤ tt; t = int4; cell = None; behind = at_first 2147483647 int4 None; breaks = null_breaks })
+null_value row allowed = bad_value (None ∷ []) 0 Null refl (record { allowed = allowed; is = null_row }) (record { enough = lit≤ tt; t = int4; cell = None; placed = at_first 2147483647 int4 None; breaks = null_breaks })
 
 -- No other row is named than the one behind the rows before.
 pub other_row : (bytes : List ℕ) → RowCause default_limits columns 0 (BadValue 1 0 Null) bytes → ⊥
@@ -92,7 +92,7 @@ other_row bytes h = omega (arith, (says h).2 1 0 Null refl)
 
 -- Three bytes for a number break.
 pub short_value : RowCause default_limits columns 0 (BadValue 0 0 Size) (0 ∷ 1 ∷ 0 ∷ 0 ∷ 0 ∷ 3 ∷ 0 ∷ 0 ∷ 42 ∷ [])
-short_value = bad_value (Some (0 ∷ 0 ∷ 42 ∷ []) ∷ []) 0 Size refl (record { allowed = lit< tt; is = row }) (record { enough = lit≤ tt; t = int4; cell = Some (0 ∷ 0 ∷ 42 ∷ []); behind = at_first 2147483647 int4 (Some (0 ∷ 0 ∷ 42 ∷ [])); breaks = three_bytes })
+short_value = bad_value (Some (0 ∷ 0 ∷ 42 ∷ []) ∷ []) 0 Size refl (record { allowed = lit< tt; is = row }) (record { enough = lit≤ tt; t = int4; cell = Some (0 ∷ 0 ∷ 42 ∷ []); placed = at_first 2147483647 int4 (Some (0 ∷ 0 ∷ 42 ∷ [])); breaks = three_bytes })
   where
     row : IsRow (Some (0 ∷ 0 ∷ 42 ∷ []) ∷ []) (0 ∷ 1 ∷ 0 ∷ 0 ∷ 0 ∷ 3 ∷ 0 ∷ 0 ∷ 42 ∷ [])
     row = record { fields = 0 ∷ 0 ∷ 0 ∷ 3 ∷ 0 ∷ 0 ∷ 42 ∷ []; few = lit< tt; each = (_, [], (lit< tt, refl), refl, refl); is = refl }

@@ -43,10 +43,10 @@ whole_text kind h = h.1 letter_e_acute
 
 -- A row of 42 and such a text breaks at column 1.
 pub second_column : BreaksAt 4 (int4 ∷ text ∷ []) (Some (0 ∷ 0 ∷ 0 ∷ 42 ∷ []) ∷ Some (195 ∷ 40 ∷ []) ∷ []) 1 Utf8
-second_column = record { enough = lit≤ tt; t = text; cell = Some (195 ∷ 40 ∷ []); behind = behind; breaks = broken_text }
+second_column = record { enough = lit≤ tt; t = text; cell = Some (195 ∷ 40 ∷ []); placed = placed; breaks = broken_text }
   where
-    behind : IsColumnAt 4 (int4 ∷ text ∷ []) (Some (0 ∷ 0 ∷ 0 ∷ 42 ∷ []) ∷ Some (195 ∷ 40 ∷ []) ∷ []) 1 text (Some (195 ∷ 40 ∷ []))
-    behind = record {
+    placed : IsColumnAt 4 (int4 ∷ text ∷ []) (Some (0 ∷ 0 ∷ 0 ∷ 42 ∷ []) ∷ Some (195 ∷ 40 ∷ []) ∷ []) 1 text (Some (195 ∷ 40 ∷ []))
+    placed = record {
       before = int4 ∷ [];
       after = [];
       spelling = Some (0 ∷ 0 ∷ 0 ∷ 42 ∷ []) ∷ [];
@@ -62,7 +62,7 @@ second_column = record { enough = lit≤ tt; t = text; cell = Some (195 ∷ 40 �
 
 -- Where the number is a null, column 1 is not the first that breaks.
 pub not_second : BreaksAt 4 (int4 ∷ text ∷ []) (None ∷ Some (195 ∷ 40 ∷ []) ∷ []) 1 Utf8 → ⊥
-not_second h = let b = h.behind in none b.before _ b.spelling _ b.values b.place b.each b.columns_are b.cells_are b.spelled
+not_second h = let b = h.placed in none b.before _ b.spelling _ b.values b.place b.each b.columns_are b.cells_are b.spelled
   where
     none : (before after : List Shape) (spelling rest : List Cell) (values : List Value) → length before ≡ 1 → length spelling ≡ length before → int4 ∷ text ∷ [] ≡ before ++ after → None ∷ Some (195 ∷ 40 ∷ []) ∷ [] ≡ spelling ++ rest → SpellsRow before spelling values → ⊥
     none [] after spelling rest values one each columns cells spelled = omega (arith, one)
@@ -91,7 +91,7 @@ long_text = record {
   t = text;
   cell = Some (97 ∷ 98 ∷ 99 ∷ []);
   value = string (97 ∷ 98 ∷ 99 ∷ []);
-  behind = record { before = []; after = []; spelling = []; rest = []; values = []; columns_are = refl; cells_are = refl; place = refl; spelled = tt; each = refl; fit = tt };
+  placed = record { before = []; after = []; spelling = []; rest = []; values = []; columns_are = refl; cells_are = refl; place = refl; spelled = tt; each = refl; fit = tt };
   spells = (97 ∷ 98 ∷ 99 ∷ [], record { utf8 = letters; bytes = refl }, refl);
   long = λ fits. omega (arith, fits);
 }

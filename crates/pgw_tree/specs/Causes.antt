@@ -40,19 +40,23 @@ pub data HeaderCause (fault : CopyFault) (bytes : List ℕ) : Type 0 where
   read_fault_in_header : fault ≡ ReadFault → IsCutHeader bytes → HeaderCause fault bytes
   no_memory_at_first : fault ≡ NoMemory → bytes ≡ [] → HeaderCause fault bytes
 
--- What a fault says of the bytes behind so many rows.
+-- What a fault says of the bytes behind so many rows, by which it counts the row that it is about.
 pub data RowCause (limits : Limits) (columns : List Shape) (before : ℕ) (fault : CopyFault)
     (bytes : List ℕ) : Type 0 where
   truncated : fault ≡ Truncated → IsCutRowAt limits before bytes → RowCause limits columns before fault bytes
   bad_field_count : (count : ℤ) → fault ≡ BadFieldCount count → IsBadCount count bytes
       → RowCause limits columns before fault bytes
+  -- the row is whole, and has fewer cells than there are columns
   unexpected_end_of_row : (cells : List Cell) → fault ≡ UnexpectedEndOfRow before → IsRowAt limits before cells bytes
       → length cells < length columns → RowCause limits columns before fault bytes
+  -- the first of its columns that is at fault breaks in this kind
   bad_value : (cells : List Cell) (column : ℕ) (kind : Break) → fault ≡ BadValue before column kind
       → IsRowAt limits before cells bytes → BreaksAt limits.field_max columns cells column kind
       → RowCause limits columns before fault bytes
+  -- or its value is too long
   too_long : (cells : List Cell) (column : ℕ) → fault ≡ TooLong before column → IsRowAt limits before cells bytes
       → IsLongAt limits.field_max columns cells column → RowCause limits columns before fault bytes
+  -- the count of a row behind as many as are allowed
   row_limit : (count : ℕ) → fault ≡ RowLimit → IsCount (Some count) bytes → before ≡ limits.rows_max
       → RowCause limits columns before fault bytes
   read_fault : fault ≡ ReadFault → IsCutRowAt limits before bytes → RowCause limits columns before fault bytes

@@ -32,7 +32,7 @@ pub record BreaksAt (most : ℕ) (columns : List Shape) (cells : List Cell) (col
   pub enough : length columns ≤ length cells
   pub t : Shape
   pub cell : Cell
-  pub behind : IsColumnAt most columns cells column t cell
+  pub placed : IsColumnAt most columns cells column t cell
   pub breaks : Breaks t kind cell
 
 -- Of a row with a cell for each column, this column's spells a value that is too long, and those before fit.
@@ -41,6 +41,6 @@ pub record IsLongAt (most : ℕ) (columns : List Shape) (cells : List Cell) (col
   pub t : Shape
   pub cell : Cell
   pub value : Value
-  pub behind : IsColumnAt most columns cells column t cell
+  pub placed : IsColumnAt most columns cells column t cell
   pub spells : Spells t cell value
   pub long : Fits most t value → ⊥

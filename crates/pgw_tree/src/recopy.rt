@@ -69,7 +69,7 @@ fn copy_stream<S: Source, K: Sink>(
 /// | `TooLong` | a value has more canonical bytes than the limit | header and rows before |
 /// | `ReadFault` | the source failed | nothing, or header and rows before |
 /// | `WriteFault` | the sink failed | header and rows; the end of what was written last may be missing |
-/// | `NoMemory` | memory for a row was asked for and refused | header and rows before |
+/// | `NoMemory` | memory was asked for and refused | nothing, or header and rows before |
 ///
 /// Rows that stand whole in what the source shows are copied from there: those that are canonical as they stand in one piece,
 /// others by way of a buffer, as many at once as have up to 32768 bytes. Any other row is held in memory as it was read, and

@@ -3,7 +3,7 @@ use Rattle.std.proofs.lemmas.Result.{IfErr-weaker}
 use Rattle.pgcopy.specs.declared.report.Outcome.{Outcome}
 use Rattle.pgcopy.specs.Words.{plan_of}
 use Rattle.pgcopy.specs.Report.{line_of, status_of, WroteUnlessFailed}
-use Rattle.pgcopy.proofs.Plans.{no_plan, with_plan, for_plan, for_fault, for_no_plan}
+use Rattle.pgcopy.proofs.Plans.{no_plan, with_plan, for_plan, for_fault, for_no_plan, fault_of_no_plan}
 use Rattle.pgcopy.proofs.Sending.{line_gained}
 use Rattle.pgcopy.proofs.run.run.Goals as goal
 
@@ -27,6 +27,9 @@ returns-clause-copied g c = λ copied.
       subst (λ (o : Outcome). WroteUnlessFailed (g.N.Sink.state c.args.notes.now) (g.N.Sink.state c.report.new.notes) (line_of o)) h.2.1 c.report.ensures.line,
       h.2.2,
     )
+
+pub returns-clause-first_fault : goal.returns-clause-first_fault
+returns-clause-first_fault g c = fault_of_no_plan c.args.words.now
 
 pub returns-clause-words_line : goal.returns-clause-words_line
 returns-clause-words_line g c =

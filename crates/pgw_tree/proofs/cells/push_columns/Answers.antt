@@ -29,7 +29,7 @@ returns-in-Err-Break-clause-err c =
       enough = omega (arith, length-map ts shape, c.len.ensures, c.if-len-columns.false);
       t = shape (get_or ts i Int4);
       cell = cell;
-      behind = column_at c.args.field_max ts (cells_of c.args.row.now) i cell inv.values (omega arith) at inv.spelled inv.fit;
+      placed = column_at c.args.field_max ts (cells_of c.args.row.now) i cell inv.values (omega arith) at inv.spelled inv.fit;
       breaks = c.push_field.ensures.broken c.in-Err-Break.kind (c.in-Err-Break.is ∙ ap Err c.in-Err-Break.field-0-is);
     })
 
@@ -46,7 +46,7 @@ returns-in-Err-TooLong-clause-err c =
       t = shape (get_or ts i Int4);
       cell = cell;
       value = long.0;
-      behind = column_at c.args.field_max ts (cells_of c.args.row.now) i cell inv.values (omega arith) at inv.spelled inv.fit;
+      placed = column_at c.args.field_max ts (cells_of c.args.row.now) i cell inv.values (omega arith) at inv.spelled inv.fit;
       spells = long.1;
       long = long.2;
     })
