@@ -1,4 +1,6 @@
 pub mod Kept
+pub mod Marked
+pub mod Reached
 pub mod Options
 pub mod Plans
 pub mod ReadingWords

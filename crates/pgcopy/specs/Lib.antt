@@ -2,3 +2,4 @@ pub mod Report
 pub mod WordsRead
 pub mod Words
 pub mod Runs
+pub mod Lent

@@ -1,14 +1,18 @@
-ghost use Rattle.std.specs.Prelude.{◌≡◌, ◌≢◌, ◌↔◌, ◌⊎◌, List, ℕ, Some, IfOk, IfErr, IsErr, IsOkAnd, true};
+ghost use Rattle.std.specs.Prelude.{◌≡◌, ◌≢◌, ◌↔◌, ◌⊎◌, List, [], ℕ, Some, IfOk, IfErr, true};
 ghost use Rattle.pgw_wire.specs.Outside.{HasFront};
 ghost use Rattle.pgw_tree.specs.Stream.{IsValidStream};
-ghost use Rattle.std.specs.Io.{ReadsAtMost, WritesAtMost};
-ghost use Rattle.std.specs.Io.KnownBytes.{Keeps, ReadConsumes, WriteAppends};
+ghost use Rattle.std.specs.Io.{ReadsAtMost};
+ghost use Rattle.std.specs.Io.KnownBytes.{Appends, ReadConsumes};
 ghost use Rattle.std.specs.IoError.{error_kind};
-ghost use Rattle.pgcopy.specs.Words.{texts, PlanData, IsPlan, HasNoPlan};
+ghost use Rattle.pgcopy.specs.Words.{texts, PlanData, IsPlan, HasNoPlan, PlacedFault, IsFirstFault};
+ghost use Rattle.pgcopy.specs.Report.{line_of, fault_status};
+ghost use Rattle.pgcopy.specs.Lent.{GotFront, CopiedOut, StoppedOut};
 
-use crate::report::Status;
+use crate::lent::{FinalSink, LentWriter};
+use crate::report::{Outcome, Status};
 use crate::run::run;
-use pgw_wire::{BufReadSource, Sink, WriteSink};
+use pgw_tree::CopyFault;
+use pgw_wire::BufReadSource;
 use std::alloc::Global;
 use std::io::{BufReader, BufWriter, Error, ErrorKind, Read, Write};
 use std::process::ExitCode;
@@ -25,16 +29,16 @@ const OUTPUT: usize = 65536;
 const LINE: usize = 256;
 
 /// Whether a signal interrupted the call that failed with this error. Such a call is made again, and no other.
-fn is_interrupted(error: &Error) -> bool
+pub fn is_interrupted(error: &Error) -> bool
     ensures { (result ≡ true) ↔ (error_kind error.now ≡ ErrorKind.Interrupted) }
 {
     error.kind() == ErrorKind::Interrupted
 }
 
-/// A reader or a writer whose calls are made again where a signal interrupted them. It gives up after 2^64 - 1 tries.
+/// A reader whose calls are made again where a signal interrupted them. It gives up after 2^64 - 1 tries.
 #[derive(Drop)]
-struct Retrying<T> {
-    inner: T,
+struct Retrying<R> {
+    inner: R,
 }
 
 impl<R: Read> Read for Retrying<R> {
@@ -57,41 +61,6 @@ impl<R: Read> Read for Retrying<R> {
     }
 }
 
-impl<W: Write> Write for Retrying<W> {
-    ghost contents = { λ s. W.contents s.inner };
-
-    #[tactic(auto, using(crate::proofs::Kept::keeps_then, crate::proofs::Kept::appends_behind_kept))]
-    fn write(&mut self, buf: &[u8]) -> io::Result<usize>
-        ensures bound { WritesAtMost result buf.now }
-        ensures bytes { WriteAppends (W.contents self.old.inner) (W.contents self.new.inner) result buf.now }
-        ensures retried { IfErr result (λ e. error_kind e ≢ ErrorKind.Interrupted) }
-    {
-        for _ in 0..u64::MAX {
-            match self.inner.write(buf) {
-                Ok(n) => return Ok(n),
-                Err(e) if is_interrupted(&e) => {}
-                Err(e) => return Err(e),
-            }
-        }
-        Err(Error::from(ErrorKind::TimedOut))
-    }
-
-    #[tactic(auto, using(crate::proofs::Kept::keeps_then))]
-    fn flush(&mut self) -> io::Result<()>
-        ensures bytes { Keeps (W.contents self.old.inner) (W.contents self.new.inner) }
-        ensures retried { IfErr result (λ e. error_kind e ≢ ErrorKind.Interrupted) }
-    {
-        for _ in 0..u64::MAX {
-            match self.inner.flush() {
-                Ok(()) => return Ok(()),
-                Err(e) if is_interrupted(&e) => {}
-                Err(e) => return Err(e),
-            }
-        }
-        Err(Error::from(ErrorKind::TimedOut))
-    }
-}
-
 /// The arguments behind the program's name. The error is `OutOfMemory` where memory for them is refused, and another
 /// where one of them is no text.
 pub fn words<R: Env + AllocGlobal>(rt: &R) -> io::Result<Vec<String>> {
@@ -103,19 +72,35 @@ pub fn words<R: Env + AllocGlobal>(rt: &R) -> io::Result<Vec<String>> {
 /// Runs on `input` and `output`, with the line on `errors`. The error is `OutOfMemory`: memory for the buffers around them
 /// was refused, before the run.
 ///
-/// Both outputs are flushed whatever the run ended with. A flush that fails then changes nothing more: where a stream
-/// was copied, the flush of the output was part of that.
-pub fn copy<I: Read + Drop, O: Write + Drop, E: Write + Drop>(
+/// Where a stream was copied the output has all of it. What the run did not flush is flushed at the end, and a flush that
+/// fails then changes nothing more: what it could not write is missing.
+pub fn copy<I: Read + Drop, O: Write, E: Write>(
     alloc: Global,
     words: &[String],
     input: I,
-    output: O,
-    errors: E,
+    output: &mut O,
+    errors: &mut E,
 ) -> io::Result<Status>
+    // The words alone decide on status 1, and there the output gets nothing.
     ensures words { IfOk result (λ status. (status ≡ Status.Words) ↔ HasNoPlan (texts words.now)) }
+    ensures words_line { IfOk result (λ _. (wrong : PlacedFault) → IsFirstFault (texts words.now) wrong
+        → GotFront (E.contents errors.old) (E.contents errors.new) (line_of (Outcome.BadWord wrong.place wrong.fault))) }
+    ensures untouched { IfOk result (λ _. HasNoPlan (texts words.now)
+        → Appends (O.contents output.old) (O.contents output.new) []) }
+
+    // What status 0 means, and what the output got.
     ensures copied { IfOk result (λ status. status ≡ Status.Copied → (plan : PlanData) × IsPlan (texts words.now) plan
         × ((left : List ℕ) → I.remaining input ≡ Some left
         → HasFront (Some left) (IsValidStream plan.limits plan.columns))) }
+    ensures output { IfOk result (λ status. status ≡ Status.Copied → (plan : PlanData) × IsPlan (texts words.now) plan
+        × (n : ℕ) × CopiedOut plan n (I.remaining input) (O.contents output.old) (O.contents output.new)
+        (E.contents errors.old) (E.contents errors.new)) }
+
+    // Each other status is that of a fault, which its line tells, and which says what was read and what was written.
+    ensures fault { IfOk result (λ status. status ≢ Status.Copied → status ≢ Status.Words
+        → (plan : PlanData) × IsPlan (texts words.now) plan × (fault : CopyFault) × (status ≡ fault_status fault)
+        × StoppedOut plan fault (I.remaining input) (O.contents output.old) (O.contents output.new)
+        (E.contents errors.old) (E.contents errors.new)) }
     ensures complete { IfOk result (λ status. (plan : PlanData) → IsPlan (texts words.now) plan
         → HasFront (I.remaining input) (IsValidStream plan.limits plan.columns)
         → (status ≡ Status.Copied) ⊎ (status ≡ Status.Outside) ⊎ (status ≡ Status.NoMemory)) }
@@ -123,20 +108,44 @@ pub fn copy<I: Read + Drop, O: Write + Drop, E: Write + Drop>(
     ensures no_memory { IfErr result (λ e. error_kind e ≡ ErrorKind.OutOfMemory) }
 {
     let reader = BufReader::with_capacity(alloc, INPUT, Retrying { inner: input })?;
-    let writer = BufWriter::with_capacity(alloc, OUTPUT, Retrying { inner: output })?;
-    let line = BufWriter::with_capacity(alloc, LINE, Retrying { inner: errors })?;
+    let writer = BufWriter::with_capacity(
+        alloc,
+        OUTPUT,
+        LentWriter {
+            inner: output,
+            passed: 0,
+        },
+    )?;
+    let line = BufWriter::with_capacity(
+        alloc,
+        LINE,
+        LentWriter {
+            inner: errors,
+            passed: 0,
+        },
+    )?;
     let mut source = BufReadSource::new(reader);
-    let mut sink = WriteSink::new(writer);
-    let mut notes = WriteSink::new(line);
+    let mut sink = FinalSink::new(writer);
+    let mut notes = FinalSink::new(line);
     let status = run(alloc, words, &mut source, &mut sink, &mut notes);
-    let _ = sink.flush();
-    let _ = notes.flush();
+    // Taken apart, each tells that it is still the writer that was lent.
+    let LentWriter {
+        inner: _output,
+        passed: _,
+    } = sink.finish();
+    let LentWriter {
+        inner: _errors,
+        passed: _,
+    } = notes.finish();
     Ok(status)
 }
 
 /// Writes a text to `output`. Where that fails, the line of a write fault goes to `errors`, with the status of one.
-pub fn tell<O: Write + Drop, E: Write + Drop>(text: &str, output: O, errors: E) -> ExitCode {
-    let mut output = Retrying { inner: output };
+pub fn tell<O: Write, E: Write>(text: &str, output: &mut O, errors: &mut E) -> ExitCode {
+    let mut output = LentWriter {
+        inner: output,
+        passed: 0,
+    };
     let told = match output.write_all(text.as_bytes()) {
         Ok(()) => output.flush(),
         Err(error) => Err(error),
@@ -144,7 +153,10 @@ pub fn tell<O: Write + Drop, E: Write + Drop>(text: &str, output: O, errors: E) 
     match told {
         Ok(()) => ExitCode::SUCCESS,
         Err(_) => {
-            let mut errors = Retrying { inner: errors };
+            let mut errors = LentWriter {
+                inner: errors,
+                passed: 0,
+            };
             let _ = errors.write_all(b"write fault\n");
             ExitCode::from(Status::Outside.code())
         }
@@ -152,17 +164,23 @@ pub fn tell<O: Write + Drop, E: Write + Drop>(text: &str, output: O, errors: E) 
 }
 
 /// Tells on `errors` where to read how the program is used.
-pub fn hint<E: Write + Drop>(errors: E) {
-    let mut errors = Retrying { inner: errors };
+pub fn hint<E: Write>(errors: &mut E) {
+    let mut errors = LentWriter {
+        inner: errors,
+        passed: 0,
+    };
     let _ = errors.write_all(b"try pgcopy --help\n");
 }
 
 /// Tells on `errors` why there was no run.
-pub fn explain<E: Write + Drop>(error: &Error, errors: E) -> Status
+pub fn explain<E: Write>(error: &Error, errors: &mut E) -> Status
     ensures no_memory { error_kind error.now ≡ ErrorKind.OutOfMemory → result ≡ Status.NoMemory }
     ensures words { error_kind error.now ≢ ErrorKind.OutOfMemory → result ≡ Status.Words }
 {
-    let mut errors = Retrying { inner: errors };
+    let mut errors = LentWriter {
+        inner: errors,
+        passed: 0,
+    };
     if error.kind() == ErrorKind::OutOfMemory {
         let _ = errors.write_all(b"out of memory\n");
         Status::NoMemory

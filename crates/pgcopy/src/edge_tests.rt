@@ -243,7 +243,7 @@ fn break_reads(rt: &impl Abort, alloc: Global, stream: Stream<'_>, fails: Fails)
     }
 }
 
-/// Lets each write and flush of the output fail in turn. The last of them is a flush of which the status does not speak.
+/// Lets each write and flush of the output fail in turn.
 fn break_writes(rt: &impl Abort, alloc: Global, stream: Stream<'_>, fails: Fails) {
     let mut fails = fails;
     let clean = copy_on(rt, alloc, stream.words, stream.bytes, NEVER, NEVER);
@@ -251,7 +251,7 @@ fn break_writes(rt: &impl Abort, alloc: Global, stream: Stream<'_>, fails: Fails
         fails.first = first;
         let ended = copy_on(rt, alloc, stream.words, stream.bytes, NEVER, fails);
         let output = ended.output.as_slice();
-        let wanted = if fails.kind < NONE && first + 1 < clean.writes {
+        let wanted = if fails.kind < NONE {
             let front = &stream.bytes[..output.len().min(stream.bytes.len())];
             (Status::Outside, b"write fault\n".as_slice(), front)
         } else {
@@ -313,7 +313,7 @@ const ENDS: [(&[&str], &[u8], Status, &[u8], usize, usize); 3] = [
         Status::Copied,
         b"rows 1\n",
         1,
-        3,
+        2,
     ),
     (
         &["copy", "int4"],
@@ -333,7 +333,8 @@ const ENDS: [(&[&str], &[u8], Status, &[u8], usize, usize); 3] = [
     ),
 ];
 
-// No read is made that is not needed. The line is written once and flushed, and the output is flushed behind a refusal, too.
+// No read is made that is not needed. The line is written once and flushed. The output is flushed once, behind a refusal,
+// too.
 #[test]
 fn what_came_of_a_copy_is_told(rt: HostRuntime) {
     for (words, input, status, line, reads, writes) in ENDS {
@@ -376,7 +377,7 @@ fn help_is_asked_for_by_one_word(rt: HostRuntime) {
         for first in 0..3 {
             let mut output = Vec::new(alloc);
             let mut errors = Vec::<u8>::new(alloc);
-            let writer = Writes {
+            let mut writer = Writes {
                 output: &mut output,
                 fails: Fails {
                     first,
@@ -385,7 +386,7 @@ fn help_is_asked_for_by_one_word(rt: HostRuntime) {
                 },
                 calls: 0,
             };
-            tell("text", writer, &mut errors);
+            tell("text", &mut writer, &mut errors);
             let is_told = kind < NONE && first < 2;
             assert!(rt; errors.is_empty() != is_told);
             assert!(rt; b"write fault\n".starts_with(&errors));

@@ -8,6 +8,7 @@ mod edge;
 mod edge_tests;
 #[cfg(test)]
 mod error_tests;
+mod lent;
 mod report;
 mod run;
 #[cfg(test)]
@@ -30,18 +31,24 @@ fn main(rt: HostRuntime) -> ExitCode {
     let ended = match edge::words(&rt) {
         Ok(words) => {
             if let Some(text) = about::asked(&words) {
-                return edge::tell(text, rt.stdout(), rt.stderr());
+                return edge::tell(text, &mut rt.stdout(), &mut rt.stderr());
             }
-            edge::copy(rt.alloc(), &words, rt.stdin(), rt.stdout(), rt.stderr())
+            edge::copy(
+                rt.alloc(),
+                &words,
+                rt.stdin(),
+                &mut rt.stdout(),
+                &mut rt.stderr(),
+            )
         }
         Err(error) => Err(error),
     };
     let status = match ended {
         Ok(status) => status,
-        Err(error) => edge::explain(&error, rt.stderr()),
+        Err(error) => edge::explain(&error, &mut rt.stderr()),
     };
     if status == Status::Words && rt.stderr().is_terminal() {
-        edge::hint(rt.stderr());
+        edge::hint(&mut rt.stderr());
     }
     ExitCode::from(status.code())
 }

@@ -1,6 +1,6 @@
 use Rattle.std.proofs.Common.{◌≡◌, ◌∙◌, ◌⊎◌, ℕ, List, [], ◌++◌, Option, None, Some, refl, sym, ap, subst, inl, inr}
-use Rattle.std.specs.Prelude.{◌==◌, ◌≢◌, if◌then◌else◌}
-use Rattle.std.specs.Io.KnownBytes.{prepend_known}
+use Rattle.std.specs.Prelude.{◌==◌, ◌≢◌, true, if◌then◌else◌}
+use Rattle.std.specs.Io.KnownBytes.{Appends, prepend_known}
 use Rattle.pgw_wire.specs.Outside.{SourceState, SinkState, left, Wrote}
 use Rattle.pgw_wire.proofs.Taking.{took_from, ended}
 use Rattle.pgw_tree.specs.declared.fault.CopyFault.{CopyFault}
@@ -14,6 +14,8 @@ use Rattle.pgcopy.specs.Report.{fault_status}
 use Rattle.pgcopy.specs.Words.{texts, PlanData}
 use Rattle.pgcopy.specs.Runs.{MetFault}
 use Rattle.pgcopy.proofs.Plans.{plan_once}
+use Rattle.std.specs.Io.Buffered.{writer_inner, writer_buffer}
+use Rattle.pgcopy.proofs.Reached.{arrives, got_none, appends_none, told_of, line_got, copied_out, stopped_out}
 use Rattle.pgcopy.proofs.edge.copy.Goals as goal
 
 -- A buffer that was filled with nothing yet leaves what its reader leaves.
@@ -62,3 +64,39 @@ returns-clause-complete g c = λ plan is valid.
     at_fault c.run-status.result _ _ _ _ f.0 f.2 valid.front valid.rest f.3 f.5
     (c.new-source.ensures.left ∙ fresh _ _ _ _ c.in_ok-reader.ensures.capacity c.in_ok-reader.ensures.empty (ap (λ i. g.I.Read.remaining i.inner) c.in_ok-reader.ensures.inner ∙ valid.is))
     (subst (λ (p : PlanData). IsValidStream p.limits p.columns valid.front) (plan_once (texts c.args.words.now) plan f.0 is f.1) valid.has))
+
+pub returns-clause-words_line : goal.returns-clause-words_line
+returns-clause-words_line g c = λ wrong first.
+    line_got _ (λ x w. (arrives g.E.Write.contents c.new-notes.result c.run-status.new.notes _ c.finish-errors.result _ (ap (λ w. writer_inner w) c.new-notes.ensures.inner ∙ c.in_ok-line.ensures.inner) (ap (λ w. writer_buffer w) c.new-notes.ensures.inner ∙ c.in_ok-line.ensures.empty) c.new-notes.ensures.flushed refl c.finish-errors.ensures (search) x w).0) (c.run-status.ensures.words_line wrong first)
+
+pub returns-clause-untouched : goal.returns-clause-untouched
+returns-clause-untouched g c = λ none.
+    got_none (arrives g.O.Write.contents c.new-sink.result c.run-status.new.sink _ c.finish-output.result _ (ap (λ w. writer_inner w) c.new-sink.ensures.inner ∙ c.in_ok-writer.ensures.inner) (ap (λ w. writer_buffer w) c.new-sink.ensures.inner ∙ c.in_ok-writer.ensures.empty) c.new-sink.ensures.flushed refl c.finish-output.ensures (search) [] (appends_none _ _ (ap (told_of g.O.Write.contents) (c.run-status.ensures.sink_untouched none)))).0
+
+pub returns-clause-output : goal.returns-clause-output
+returns-clause-output g c = λ copied.
+    let h = c.run-status.ensures.copied copied in
+    let flushed : c.run-status.new.sink.is_flushed ≡ true = cc (c.run-status.ensures.settled copied) in (
+      h.0,
+      h.1,
+      h.2,
+      copied_out h.0 h.2 _ _ _ _ (g.I.Read.remaining c.args.input) _ _ _ _
+          (λ left told. c.new-source.ensures.left ∙ fresh _ _ _ left c.in_ok-reader.ensures.capacity c.in_ok-reader.ensures.empty (ap (λ i. g.I.Read.remaining i.inner) c.in_ok-reader.ensures.inner ∙ told))
+          (λ x w. (arrives g.O.Write.contents c.new-sink.result c.run-status.new.sink _ c.finish-output.result _ (ap (λ w. writer_inner w) c.new-sink.ensures.inner ∙ c.in_ok-writer.ensures.inner) (ap (λ w. writer_buffer w) c.new-sink.ensures.inner ∙ c.in_ok-writer.ensures.empty) c.new-sink.ensures.flushed refl c.finish-output.ensures (search) x w).1 flushed)
+          h.4
+          (line_got _ (λ x w. (arrives g.E.Write.contents c.new-notes.result c.run-status.new.notes _ c.finish-errors.result _ (ap (λ w. writer_inner w) c.new-notes.ensures.inner ∙ c.in_ok-line.ensures.inner) (ap (λ w. writer_buffer w) c.new-notes.ensures.inner ∙ c.in_ok-line.ensures.empty) c.new-notes.ensures.flushed refl c.finish-errors.ensures (search) x w).0) h.3),
+    )
+
+pub returns-clause-fault : goal.returns-clause-fault
+returns-clause-fault g c = λ not_copied not_words.
+    let h = c.run-status.ensures.fault not_copied not_words in (
+      h.0,
+      h.1,
+      h.2,
+      h.3,
+      stopped_out h.0 h.2 _ _ _ _ (g.I.Read.remaining c.args.input) _ _ _ _
+          (λ left told. c.new-source.ensures.left ∙ fresh _ _ _ left c.in_ok-reader.ensures.capacity c.in_ok-reader.ensures.empty (ap (λ i. g.I.Read.remaining i.inner) c.in_ok-reader.ensures.inner ∙ told))
+          (λ x w. (arrives g.O.Write.contents c.new-sink.result c.run-status.new.sink _ c.finish-output.result _ (ap (λ w. writer_inner w) c.new-sink.ensures.inner ∙ c.in_ok-writer.ensures.inner) (ap (λ w. writer_buffer w) c.new-sink.ensures.inner ∙ c.in_ok-writer.ensures.empty) c.new-sink.ensures.flushed refl c.finish-output.ensures (search) x w).0)
+          h.5
+          (line_got _ (λ x w. (arrives g.E.Write.contents c.new-notes.result c.run-status.new.notes _ c.finish-errors.result _ (ap (λ w. writer_inner w) c.new-notes.ensures.inner ∙ c.in_ok-line.ensures.inner) (ap (λ w. writer_buffer w) c.new-notes.ensures.inner ∙ c.in_ok-line.ensures.empty) c.new-notes.ensures.flushed refl c.finish-errors.ensures (search) x w).0) h.4),
+    )
