@@ -305,13 +305,14 @@ fn a_call_that_fails_is_told_and_one_that_a_signal_interrupted_is_made_again(rt:
     break_calls(&rt, alloc, long, OFTEN, NONE);
 }
 
-// words, a stream, the status, the line, and how many calls the input and the output get
-const ENDS: [(&[&str], &[u8], Status, &[u8], usize, usize); 3] = [
+// words, a stream, the status, the line, the output, and how many calls the input and the output get
+const ENDS: [(&[&str], &[u8], Status, &[u8], &[u8], usize, usize); 3] = [
     (
         &["copy", "int4"],
         ONE_ROW,
         Status::Copied,
         b"rows 1\n",
+        ONE_ROW,
         1,
         2,
     ),
@@ -320,6 +321,7 @@ const ENDS: [(&[&str], &[u8], Status, &[u8], usize, usize); 3] = [
         CUT,
         Status::Refused,
         b"truncated\n",
+        CUT,
         3,
         2,
     ),
@@ -328,6 +330,7 @@ const ENDS: [(&[&str], &[u8], Status, &[u8], usize, usize); 3] = [
         ONE_ROW,
         Status::Words,
         b"word 1: missing type\n",
+        b"",
         0,
         1,
     ),
@@ -337,9 +340,10 @@ const ENDS: [(&[&str], &[u8], Status, &[u8], usize, usize); 3] = [
 // too.
 #[test]
 fn what_came_of_a_copy_is_told(rt: HostRuntime) {
-    for (words, input, status, line, reads, writes) in ENDS {
+    for (words, input, status, line, output, reads, writes) in ENDS {
         let ended = copy_on(&rt, rt.alloc(), words, input, NEVER, NEVER);
-        assert!(rt; (ended.status, ended.line.as_slice()) == (status, line));
+        let told = (ended.status, ended.line.as_slice(), ended.output.as_slice());
+        assert!(rt; told == (status, line, output));
         assert!(rt; (ended.reads, ended.writes, ended.line_writes) == (reads, writes, 2));
     }
 }

@@ -263,16 +263,20 @@ fn no_read_is_made_behind_the_bytes_that_suffice(rt: HostRuntime) {
     }
 }
 
-/// How many bytes are written and taken of a source that shows all, where each write takes one, and the sink fails behind so
-/// many.
-fn moved_behind(alloc: Global, case: Case, written: usize) -> Result<(usize, usize), AllocError> {
+/// The status, and how many bytes are written and taken of a source that shows all, where each write takes one, and the sink
+/// fails behind so many.
+fn moved_behind(
+    alloc: Global,
+    case: Case,
+    written: usize,
+) -> Result<(Status, usize, usize), AllocError> {
     let prepared = prepare(alloc, case)?;
     let mut source = QuietSource::new(prepared.input.to_vec(alloc)?);
     let cuts = cuts_of(alloc, 1)?;
     let fail = written as u64;
     let ended = run_on(alloc, &prepared.words, &mut source, cuts, fail)?;
     let taken = prepared.input.len().saturating_sub(left_of(&mut source));
-    Ok((ended.output.gained().len(), taken))
+    Ok((ended.status, ended.output.gained().len(), taken))
 }
 
 // how many bytes the sink gets before it fails, and how many are taken then, of four rows that are canonical as they stand
@@ -312,13 +316,13 @@ fn rows_through_the_one_in_which_the_sink_failed_are_taken(rt: HostRuntime) {
     for (written, taken) in AS_THEY_STAND {
         assert_eq!(rt;
             moved_behind(alloc, CASES[1], written),
-            Ok((written, taken))
+            Ok((Status::Outside, written, taken))
         );
     }
     for (written, taken) in SPELLED_OTHERWISE {
         assert_eq!(rt;
             moved_behind(alloc, CASES[3], written),
-            Ok((written, taken))
+            Ok((Status::Outside, written, taken))
         );
     }
 }
@@ -334,11 +338,13 @@ fn repeated(alloc: Global, row: &[u8], many: usize, tail: &[u8]) -> Result<Vec<u
 }
 
 /// Copies so many rows of which the null has another length, where the sink's call with this number fails. Answers whether
-/// what is written is a front of the canonical stream, the status, and how many bytes are written and left.
+/// what is written is a front of the canonical stream and the line is this one, the status, and how many bytes are written
+/// and left.
 fn respell_many(
     alloc: Global,
     many: usize,
     fail: u64,
+    line: &[u8],
 ) -> Result<(bool, Status, usize, usize), AllocError> {
     let prepared = prepare(alloc, CASES[2])?;
     let output = repeated(alloc, NULL, many, b"\xff\xff")?;
@@ -346,8 +352,8 @@ fn respell_many(
     let cuts = Vec::new(alloc);
     let ended = run_on(alloc, &prepared.words, &mut source, cuts, fail)?;
     let written = ended.output.gained();
-    let is_front = output.starts_with(written);
-    Ok((is_front, ended.status, written.len(), left_of(&mut source)))
+    let is_told = output.starts_with(written) && ended.line.gained() == line;
+    Ok((is_told, ended.status, written.len(), left_of(&mut source)))
 }
 
 // The rows have 42000 bytes, and the canonical ones too: more than are spelled before some are written.
@@ -355,14 +361,14 @@ fn respell_many(
 fn many_rows_that_are_spelled_otherwise_are_copied(rt: HostRuntime) {
     let alloc = rt.alloc();
     assert_eq!(rt;
-        respell_many(alloc, 3000, NEVER),
+        respell_many(alloc, 3000, NEVER, b"rows 3000\n"),
         Ok((true, Status::Copied, 42021, 0))
     );
-    let failed = respell_many(alloc, 3000, 2).expect(&rt, "memory");
-    let (is_front, status, written, left) = failed;
+    let failed = respell_many(alloc, 3000, 2, b"write fault\n").expect(&rt, "memory");
+    let (is_told, status, written, left) = failed;
     // The sink failed in front of a row, which was taken.
     assert_eq!(rt;
-        (is_front, status, written % 14, written.saturating_add(left)),
+        (is_told, status, written % 14, written.saturating_add(left)),
         (true, Status::Outside, 19 % 14, 42021 - 14)
     );
 }

@@ -2,7 +2,7 @@ ghost use Rattle.std.specs.Prelude.{◌≤◌};
 
 use crate::report::Status;
 use crate::test_runs::{Ended, run_on, texts_of};
-use pgw_wire::MemorySource;
+use pgw_wire::{MemorySource, Sink, Source};
 use std::alloc::{AllocError, Global};
 use std::process::Abort;
 
@@ -100,8 +100,9 @@ struct Run<'a> {
     taken: usize,
 }
 
-/// Runs, each read and write by at most so many bytes as `cuts` says. Also answers how many bytes are taken.
-fn ended_of(alloc: Global, on: Run<'_>, cuts: &[usize]) -> Result<(Ended, usize), AllocError> {
+/// Runs, each read and write by at most so many bytes as `cuts` says. Also answers how many bytes are taken, and how many
+/// reads failed.
+fn ended_of(alloc: Global, on: Run<'_>, cuts: &[usize]) -> Result<(Ended, usize, u64), AllocError> {
     let words = texts_of(alloc, on.words)?;
     let fails = [on.read_fail].to_vec(alloc)?;
     let mut source = MemorySource::new(on.input.to_vec(alloc)?, cuts.to_vec(alloc)?, fails);
@@ -112,12 +113,17 @@ fn ended_of(alloc: Global, on: Run<'_>, cuts: &[usize]) -> Result<(Ended, usize)
         cuts.to_vec(alloc)?,
         on.write_fail,
     )?;
-    Ok((ended, source.taken()))
+    Ok((ended, source.taken(), source.faults()))
 }
 
-/// Runs, and fails where something else comes of it.
+/// Runs, and fails where something else comes of it. A call fails just where the line tells that one did.
 fn assert_run(rt: &impl Abort, alloc: Global, wanted: Run<'_>, cuts: &[usize]) {
-    let (ended, taken) = ended_of(alloc, wanted, cuts).expect(rt, "memory");
+    let (ended, taken, read_faults) = ended_of(alloc, wanted, cuts).expect(rt, "memory");
+    let wanted_faults = (
+        u64::from(wanted.line == b"read fault\n".as_slice()),
+        u64::from(wanted.line == b"write fault\n".as_slice()),
+    );
+    assert_eq!(rt; (read_faults, ended.output.faults()), wanted_faults);
     assert_eq!(rt;
         (
             ended.status,
@@ -470,7 +476,7 @@ fn written_of(len: usize) -> usize
 #[test]
 fn a_stream_that_is_cut_anywhere_is_refused(rt: HostRuntime) {
     let alloc = rt.alloc();
-    for len in 0..39 {
+    for len in 0..42 {
         let input = &TWO_ROWS[..len];
         let output = &TWO_ROWS[..written_of(len)];
         let cut = Run {
@@ -483,7 +489,9 @@ fn a_stream_that_is_cut_anywhere_is_refused(rt: HostRuntime) {
             output,
             taken: len,
         };
-        assert_run(&rt, alloc, cut, &[1; 80]);
+        if len < 39 {
+            assert_run(&rt, alloc, cut, &[1; 80]);
+        }
         let line = if len < 31 {
             b"truncated\n".as_slice()
         } else {
