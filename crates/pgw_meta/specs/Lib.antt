@@ -1,0 +1,3 @@
+pub mod Keys
+pub mod Known
+pub mod Metadata
