@@ -3,11 +3,15 @@
 #![tactic(auto)]
 
 mod backend;
+mod found_oids;
 mod key;
 mod metadata_lookup;
 mod name_text;
+mod types;
 
 pub use backend::{FailedToLookupTypeError, InnerPgTypeMetadata, Pg, PgTypeMetadata};
+pub use found_oids::{Found, FoundOids};
 pub use key::{PgMetadataCacheKey, TypeKey};
 pub use metadata_lookup::{LookupError, PgMetadataLookup};
 pub use name_text::NameText;
+pub use types::{PgType, TypeList};
