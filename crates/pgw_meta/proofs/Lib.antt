@@ -1,0 +1,4 @@
+pub mod Views
+pub mod Faults
+pub mod OtherTypes
+pub mod Columns

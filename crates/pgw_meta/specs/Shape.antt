@@ -1,30 +1,34 @@
 -- Types of PostgreSQL's, as trees.
-use Rattle.std.specs.Prelude.{ℕ, suc, List, [], ◌∷◌}
+use Rattle.std.specs.Prelude.{ℕ, suc}
 use Rattle.pgw_meta.specs.Known.{Key}
+
+-- the types that stand on no other
+pub data Scalar : Type 0 where
+  bool : Scalar
+  char : Scalar
+  int2 : Scalar
+  int4 : Scalar
+  int8 : Scalar
+  oid : Scalar
+  text : Scalar
+  bytea : Scalar
+  uuid : Scalar
+  money : Scalar
+  pg_lsn : Scalar
+  macaddr : Scalar
+  macaddr8 : Scalar
+  inet : Scalar
+  cidr : Scalar
+  date : Scalar
+  time : Scalar
+  timestamp : Scalar
+  timestamptz : Scalar
+  interval : Scalar
+  numeric : Scalar
 
 mutual
   pub data Shape : Type 0 where
-    bool : Shape
-    char : Shape
-    int2 : Shape
-    int4 : Shape
-    int8 : Shape
-    oid : Shape
-    text : Shape
-    bytea : Shape
-    uuid : Shape
-    money : Shape
-    pg_lsn : Shape
-    macaddr : Shape
-    macaddr8 : Shape
-    inet : Shape
-    cidr : Shape
-    date : Shape
-    time : Shape
-    timestamp : Shape
-    timestamptz : Shape
-    interval : Shape
-    numeric : Shape
+    scalar : Scalar → Shape
     nullable : Shape → Shape
     array : Shape → Shape
     range : Shape → Shape

@@ -1,7 +1,7 @@
 -- The trees that the program's types are.
 use Rattle.std.specs.Prelude.{List, [], ◌∷◌, map}
 use Rattle.pgw_meta.specs.Keys.{owned_key}
-use Rattle.pgw_meta.specs.Shape.{Shape, bool, char, int2, int4, int8, oid, text, bytea, uuid, money, pg_lsn, macaddr, macaddr8, inet, cidr, date, time, timestamp, timestamptz, interval, numeric, nullable, array, range, multirange, composite, named, Shapes, no_shapes, shape_then}
+use Rattle.pgw_meta.specs.Shape.{Shape, scalar, bool, char, int2, int4, int8, oid, text, bytea, uuid, money, pg_lsn, macaddr, macaddr8, inet, cidr, date, time, timestamp, timestamptz, interval, numeric, nullable, array, range, multirange, composite, named, Shapes, no_shapes, shape_then}
 use Rattle.pgw_meta.specs.declared.types.TypeList.{TypeList}
 use Rattle.pgw_meta.specs.declared.types.PgType.{PgType, Row_of-PgType, end_of-PgType, more_of-PgType}
 use Rattle.pgw_meta.specs.declared.types.PgType.TheVariants.{Bool, Char, Int2, Int4, Int8, Oid, Text, Bytea, Uuid, Money, Lsn, Mac, Mac8, Inet, Cidr, Date, Time, Timestamp, Timestamptz, Interval, Numeric, Nullable', Array', Range', Multirange', Record', Named'}
@@ -11,27 +11,27 @@ types_of l = l.types
 
 abbrev mutual
   pub shape : PgType → Shape
-  shape Bool = bool
-  shape Char = char
-  shape Int2 = int2
-  shape Int4 = int4
-  shape Int8 = int8
-  shape Oid = oid
-  shape Text = text
-  shape Bytea = bytea
-  shape Uuid = uuid
-  shape Money = money
-  shape Lsn = pg_lsn
-  shape Mac = macaddr
-  shape Mac8 = macaddr8
-  shape Inet = inet
-  shape Cidr = cidr
-  shape Date = date
-  shape Time = time
-  shape Timestamp = timestamp
-  shape Timestamptz = timestamptz
-  shape Interval = interval
-  shape Numeric = numeric
+  shape Bool = scalar bool
+  shape Char = scalar char
+  shape Int2 = scalar int2
+  shape Int4 = scalar int4
+  shape Int8 = scalar int8
+  shape Oid = scalar oid
+  shape Text = scalar text
+  shape Bytea = scalar bytea
+  shape Uuid = scalar uuid
+  shape Money = scalar money
+  shape Lsn = scalar pg_lsn
+  shape Mac = scalar macaddr
+  shape Mac8 = scalar macaddr8
+  shape Inet = scalar inet
+  shape Cidr = scalar cidr
+  shape Date = scalar date
+  shape Time = scalar time
+  shape Timestamp = scalar timestamp
+  shape Timestamptz = scalar timestamptz
+  shape Interval = scalar interval
+  shape Numeric = scalar numeric
   shape (Nullable' p t) = nullable (shape t)
   shape (Array' p t) = array (shape t)
   shape (Range' p t) = range (shape t)

@@ -5,8 +5,14 @@
 mod backend;
 mod found_oids;
 mod key;
+pub mod laws;
 mod metadata_lookup;
 mod name_text;
+mod schema;
+#[cfg(test)]
+mod schema_tests;
+#[cfg(test)]
+mod tests;
 mod types;
 
 pub use backend::{FailedToLookupTypeError, InnerPgTypeMetadata, Pg, PgTypeMetadata};
@@ -14,4 +20,5 @@ pub use found_oids::{Found, FoundOids};
 pub use key::{PgMetadataCacheKey, TypeKey};
 pub use metadata_lookup::{LookupError, PgMetadataLookup};
 pub use name_text::NameText;
+pub use schema::{Schema, SchemaError};
 pub use types::{PgType, TypeList};
