@@ -2,3 +2,4 @@ pub mod Views
 pub mod Faults
 pub mod OtherTypes
 pub mod Columns
+pub mod WorkedSchemas
