@@ -1,0 +1,5 @@
+pub mod Keys
+pub mod Known
+pub mod Metadata
+pub mod Shape
+pub mod Types
