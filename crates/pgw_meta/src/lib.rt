@@ -3,15 +3,26 @@
 #![tactic(auto)]
 
 mod backend;
+pub mod deserialize;
+mod dummy;
 mod found_oids;
 mod key;
 mod metadata_lookup;
 mod name_text;
+pub mod serialize;
+pub mod sql_types;
 mod types;
 
 pub use backend::{FailedToLookupTypeError, InnerPgTypeMetadata, Pg, PgTypeMetadata};
+pub use deserialize::{Defaultable, FromSql, FromSqlRef};
+pub use dummy::Dummy;
 pub use found_oids::{Found, FoundOids};
 pub use key::{PgMetadataCacheKey, TypeKey};
 pub use metadata_lookup::{LookupError, PgMetadataLookup};
 pub use name_text::NameText;
+pub use serialize::{ToSql, WriteError};
+pub use sql_types::{HasSqlType, NotNull, RangeElement, SingleValue, SqlType};
 pub use types::{PgType, TypeList};
+
+#[cfg(test)]
+mod codec_tests;
