@@ -1,6 +1,5 @@
 ghost use Rattle.std.specs.Prelude.{◌≡◌, ◌≢◌, [], ◌∷◌, length, false, codes, Ok, None};
-ghost use Rattle.pgw_meta.specs.Metadata.{found};
-ghost use Rattle.pgw_meta.specs.Naming.{found_unknown};
+ghost use Rattle.pgw_meta.specs.Naming.{looked_up_by};
 ghost use Rattle.pgw_meta.specs.Reading.{ReadsPiece, RefusesPiece};
 ghost use Rattle.pgw_wire.specs.declared.is_null.IsNull.TheVariants.{No as no};
 ghost use Rattle.pgw_wire.specs.declared.sql_error.SqlError.TheVariants.{WrongSize as wrong_size};
@@ -22,7 +21,7 @@ impl NotNull for Small {}
 impl SingleValue for Small {}
 
 impl HasSqlType<Small> for Pg {
-    ghost names = { λ k. found k (record { schema = None; name = codes "small" }) };
+    ghost names = { looked_up_by (record { schema = None; name = codes "small" }) };
 
     fn metadata<L: PgMetadataLookup>(
         alloc: Global,
@@ -30,8 +29,6 @@ impl HasSqlType<Small> for Pg {
     ) -> Result<PgTypeMetadata, LookupError> {
         lookup.lookup_type(alloc, "small", None)
     }
-
-    ghost unknown = { found_unknown (record { schema = None; name = codes "small" }) };
 }
 
 #[derive(Clone, Copy, Debug, PartialEq, Eq)]

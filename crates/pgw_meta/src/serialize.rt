@@ -98,7 +98,7 @@ pub trait ToSql<A> {
     fn to_sql<L: PgMetadataLookup>(&self, out: &mut Output<'_, L>) -> Result
         requires { StartsWithin out.old }
         ensures wrote { (bytes : List ℕ) × (out.new.out.now.bytes ≡ out.old.out.now.bytes ++ bytes)
-            × ((k : Known) → known (L.state out.old.lookup.now) ≡ Some k → Wrote writes k self.now result bytes) }
+            × ((k : Known) → known (L.state out.old.lookup.now) ≡ Some k → Wrote writes k self.now bytes result) }
         ensures failed { result ≡ Err lookup_failed → HasFailed (L.state out.old.lookup.now) (L.state out.new.lookup.now) }
         ensures same { IsSameOutput out.old out.new }
         ensures told { (L.state out.new.lookup.now).told ≡ (L.state out.old.lookup.now).told }

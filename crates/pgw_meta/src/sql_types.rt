@@ -1,7 +1,8 @@
-ghost use Rattle.std.specs.Prelude.{◌≡◌, ◌≤◌, Result, Some, None, Err, IfOk};
+ghost use Rattle.std.specs.Prelude.{◌≡◌, ◌≤◌, Some, Err, IfOk};
 ghost use Rattle.pgw_wire.specs.Outside.{HasFailed};
-ghost use Rattle.pgw_meta.specs.Known.{Key, Oids, Known, known};
+ghost use Rattle.pgw_meta.specs.Known.{Known, known};
 ghost use Rattle.pgw_meta.specs.Metadata.{metadata_of};
+ghost use Rattle.pgw_meta.specs.Naming.{Naming};
 ghost use Rattle.pgw_meta.specs.declared.metadata_lookup.LookupError.TheVariants.{Failed};
 
 use crate::{LookupError, PgMetadataLookup, PgTypeMetadata};
@@ -34,7 +35,7 @@ pub trait RangeElement: NotNull {
 /// A backend that has the type of the marker `A`.
 pub trait HasSqlType<A> {
     /// The oids of the type under what is known, or the key that it is looked up by, where that is not known.
-    ghost names: { Known → Result Oids Key };
+    ghost names: { Naming };
 
     /// The oids of the type and of its arrays, or the key that it is looked up by and that is not known. `Failed` comes
     /// only where the lookup's count of faults rises. No call changes what is known.
@@ -43,11 +44,8 @@ pub trait HasSqlType<A> {
         lookup: &mut L,
     ) -> Result<PgTypeMetadata, LookupError>
         ensures named { IfOk result (λ metadata. (k : Known) → known (L.state lookup.old) ≡ Some k
-            → metadata_of metadata ≡ names k) }
+            → metadata_of metadata ≡ names.oids k) }
         ensures failed { result ≡ Err Failed → HasFailed (L.state lookup.old) (L.state lookup.new) }
         ensures told { (L.state lookup.new).told ≡ (L.state lookup.old).told }
         ensures faults { (L.state lookup.old).fault_count ≤ (L.state lookup.new).fault_count };
-
-    /// A key is named only where it is not known.
-    ghost unknown: { (k : Known) (key : Key) → names k ≡ Err key → k key ≡ None };
 }

@@ -1,6 +1,6 @@
 -- What a call leaves of an output.
 use Rattle.std.specs.Borrow.{Lends, MutBor, Fml, RattleType}
-use Rattle.std.specs.Prelude.{ℕ, ◌≡◌, ◌≤◌, [], length, take}
+use Rattle.std.specs.Prelude.{◌≡◌, ◌≤◌, [], length, take}
 use Rattle.pgw_wire.specs.declared.output.Output.{Output}
 use Rattle.pgw_wire.specs.contracts.output.Output.{the_row}
 use mir.Syntax.{named}
