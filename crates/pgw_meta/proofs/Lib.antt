@@ -3,3 +3,4 @@ pub mod Faults
 pub mod OtherTypes
 pub mod Columns
 pub mod WorkedSchemas
+pub mod Reading

@@ -5,3 +5,6 @@ pub mod Schema
 pub mod Shape
 pub mod Types
 pub mod Walk
+pub mod Naming
+pub mod Reading
+pub mod Writing

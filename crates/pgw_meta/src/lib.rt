@@ -3,22 +3,33 @@
 #![tactic(auto)]
 
 mod backend;
+pub mod deserialize;
+mod dummy;
 mod found_oids;
 mod key;
 pub mod laws;
 mod metadata_lookup;
 mod name_text;
 mod schema;
-#[cfg(test)]
-mod schema_tests;
-#[cfg(test)]
-mod tests;
+pub mod serialize;
+pub mod sql_types;
 mod types;
 
 pub use backend::{FailedToLookupTypeError, InnerPgTypeMetadata, Pg, PgTypeMetadata};
+pub use deserialize::{Defaultable, FromSql, FromSqlRef};
+pub use dummy::Dummy;
 pub use found_oids::{Found, FoundOids};
 pub use key::{PgMetadataCacheKey, TypeKey};
 pub use metadata_lookup::{LookupError, PgMetadataLookup};
 pub use name_text::NameText;
 pub use schema::{Schema, SchemaError};
+pub use serialize::{ToSql, WriteError};
+pub use sql_types::{HasSqlType, NotNull, RangeElement, SingleValue, SqlType};
 pub use types::{PgType, TypeList};
+
+#[cfg(test)]
+mod codec_tests;
+#[cfg(test)]
+mod schema_tests;
+#[cfg(test)]
+mod tests;
