@@ -131,8 +131,8 @@ abbrev pub columns_fault : ℕ → List Shape → Option SchemaError
 columns_fault column [] = None
 columns_fault column (t ∷ ts) = option_or (first_fault column (walk 1 t)) (columns_fault (column + 1) ts)
 
--- The first fault of the columns of a schema: that there is none, that there are too many, or that of the first type that
--- has one.
+-- The first fault of the columns of a schema: that there is none, that there are too many, or that of the first type
+-- that has one.
 abbrev pub schema_fault : List Shape → Option SchemaError
 schema_fault columns =
     if length columns == 0 then Some NoColumns

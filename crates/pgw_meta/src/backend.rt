@@ -89,11 +89,11 @@ impl PgTypeMetadata {
     }
 
     /// These oids, of a type and of its arrays, or the key that is not known. It takes no memory.
-    pub fn from_result(r: Result<(u32, u32), FailedToLookupTypeError>) -> Self
-        ensures { metadata_of result ≡ oids_or_key r }
+    pub fn from_result(oids: Result<(u32, u32), FailedToLookupTypeError>) -> Self
+        ensures { metadata_of result ≡ oids_or_key oids }
     {
         PgTypeMetadata {
-            oids: match r {
+            oids: match oids {
                 Ok((oid, array_oid)) => Ok(InnerPgTypeMetadata { oid, array_oid }),
                 Err(error) => Err(error),
             },

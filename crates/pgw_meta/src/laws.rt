@@ -13,6 +13,6 @@ pub fn keys_are_equal_by_their_texts<'a>(a: &PgMetadataCacheKey<'a>, b: &PgMetad
 
 /// Keys of equal texts hash alike.
 pub fn keys_hash_by_their_texts<'a>(a: &PgMetadataCacheKey<'a>, b: &PgMetadataCacheKey<'a>)
-    ensures { key_of a.now ≡ key_of b.now
-        → ⟦<PgMetadataCacheKey<'a> as Hash>⟧.hash_input a.now ≡ ⟦<PgMetadataCacheKey<'a> as Hash>⟧.hash_input b.now }
+    ensures { key_of a.now ≡ key_of b.now → ⟦<PgMetadataCacheKey<'a> as Hash>⟧.hash_input a.now
+        ≡ ⟦<PgMetadataCacheKey<'a> as Hash>⟧.hash_input b.now }
 {}

@@ -38,16 +38,17 @@ pub trait PgMetadataLookup {
     /// many of its calls failed, a count that stops at the largest `u64`.
     ghost state: { Self → LookupState };
 
-    /// Looks up the oids of the type of this name, in this schema or in none that is said. Ok has the oids exactly where
-    /// the key is known, and else the key itself. `Failed` comes only where the count of faults rises. No call changes
-    /// what is known.
+    /// Looks up the oids of the type of this name, in this schema or in none that is said. Ok has the oids exactly where the
+    /// key is known, and else the key itself. `Failed` comes only where the count of faults rises. No call changes what is
+    /// known.
     fn lookup_type(
         &mut self,
         alloc: Global,
         type_name: &str,
         schema: Option<&str>,
     ) -> Result<PgTypeMetadata, LookupError>
-        ensures found { IfOk result (λ metadata. (k : Known) → known (state self.old) ≡ Some k → metadata_of metadata ≡ found k (record { schema = text_of schema.entry; name = type_name.now })) }
+        ensures found { IfOk result (λ metadata. (k : Known) → known (state self.old) ≡ Some k
+            → metadata_of metadata ≡ found k (record { schema = text_of schema.entry; name = type_name.now })) }
         ensures failed { result ≡ Err Failed → HasFailed (state self.old) (state self.new) }
         ensures told { (state self.new).told ≡ (state self.old).told }
         ensures faults { (state self.old).fault_count ≤ (state self.new).fault_count };

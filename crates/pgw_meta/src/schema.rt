@@ -116,9 +116,9 @@ impl Model for Schema {
 }
 
 impl Schema {
-    /// The schema of these columns, where they are valid. Else the first fault: that there is no column, that there are too
-    /// many, or that of the first type that has one, as the columns are walked in order, each type before its parts. Of the
-    /// faults of one type `TooDeep` is the first. It takes no memory.
+    /// The schema of these columns, where they are valid. Else the first fault: that there is no column, that there are
+    /// too many, or that of the first type that has one, as the columns are walked in order, each type before its parts.
+    /// Of the faults of one type `TooDeep` is the first. It takes no memory.
     #[tactic(auto, using(crate::proofs::Faults::valid_without_fault, crate::proofs::Faults::no_fault_where_valid))]
     pub fn new(_alloc: Global, columns: TypeList) -> Result<Schema, SchemaError>
         ensures columns { IfOk result (λ schema. schema ≡ types_of columns) }
