@@ -8,7 +8,6 @@ ghost use Rattle.pgw_meta.specs.declared.serialize.WriteError.TheVariants.{Looku
 use crate::{FailedToLookupTypeError, LookupError, PgMetadataLookup};
 use pgw_wire::NoMemory as NoMemoryLeft;
 pub use pgw_wire::{IsNull, Output};
-use std::alloc::{AllocError, AllocFailed};
 use thiserror::Error;
 
 /// Why a value was not written.
@@ -44,26 +43,6 @@ impl From<NoMemoryLeft> for WriteError {
     ghost from_gives = { λ _ e. e ≡ no_memory };
 
     fn from(_: NoMemoryLeft) -> WriteError {
-        WriteError::NoMemory
-    }
-}
-
-impl From<AllocError> for WriteError {
-    ghost use Rattle.pgw_meta.specs.declared.serialize.WriteError.TheVariants.{NoMemory as no_memory};
-
-    ghost from_gives = { λ _ e. e ≡ no_memory };
-
-    fn from(_: AllocError) -> WriteError {
-        WriteError::NoMemory
-    }
-}
-
-impl<T: Drop> From<AllocFailed<T>> for WriteError {
-    ghost use Rattle.pgw_meta.specs.declared.serialize.WriteError.TheVariants.{NoMemory as no_memory};
-
-    ghost from_gives = { λ _ e. e ≡ no_memory };
-
-    fn from(_: AllocFailed<T>) -> WriteError {
         WriteError::NoMemory
     }
 }
