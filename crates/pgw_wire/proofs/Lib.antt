@@ -2,3 +2,4 @@ pub mod Lists
 pub mod Numbers
 pub mod Taking
 pub mod Adding
+mod WorkedRefusals

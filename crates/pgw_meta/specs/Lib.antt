@@ -1,0 +1,10 @@
+pub mod Keys
+pub mod Known
+pub mod Metadata
+pub mod Schema
+pub mod Shape
+pub mod Types
+pub mod Walk
+pub mod Naming
+pub mod Reading
+pub mod Writing
