@@ -1,13 +1,12 @@
 -- What is known of a type that is none of some kinds.
-use Rattle.std.proofs.Common.{◌≡◌, ℕ, false, None, Box, Global, refl, sym, subst, ◌∙◌}
+use Rattle.std.proofs.Common.{◌≡◌, false, Box, Global, refl, sym, subst, ◌∙◌}
 use denote.Hole.Carrier.{roll}
 use Rattle.pgw_meta.specs.Types.{shape}
-use Rattle.pgw_meta.specs.Schema.{is_nullable, is_array, without_null, has_ranges, may_be_named, part_fault, fault_at}
-use Rattle.pgw_meta.specs.Walk.{type_fault}
+use Rattle.pgw_meta.specs.Schema.{is_nullable, is_array, without_null, has_ranges, may_be_named}
 use Rattle.pgw_meta.specs.declared.types.TypeList.{TypeList}
-use Rattle.pgw_meta.specs.declared.types.PgType.{PgType, Nullable, Array, Range, Multirange, Record, Named, PgType-F, out-PgType, roll-PgType, roll-out-PgType}
+use Rattle.pgw_meta.specs.declared.types.PgType.{PgType, Nullable, Array, Record, PgType-F, out-PgType, roll-PgType, roll-out-PgType}
 use Rattle.pgw_meta.specs.declared.types.PgType.TheOpen.{Text as text_layer, Record as record_layer}
-use Rattle.pgw_meta.specs.declared.types.PgType.TheVariants.{Int4, Int8, Numeric, Date, Timestamp, Timestamptz, Text, Nullable', Array', Range', Multirange', Record', Named', rolls-Record}
+use Rattle.pgw_meta.specs.declared.types.PgType.TheVariants.{Int4, Int8, Numeric, Date, Timestamp, Timestamptz, Text, Nullable', Array', rolls-Record}
 
 abbrev boxed : Box (Unit {0}) Global → PgType → Box PgType Global
 boxed p t = record { ptr = p.ptr; alloc = p.alloc; value = t }

@@ -2,7 +2,7 @@
 use Rattle.std.proofs.Common.{◌≡◌, ℕ, suc, ◌+◌, ◌<◌, ◌≤◌, List, [], ◌∷◌, length, get_or, drop, Option, Some, None, refl, sym, ap, ◌∙◌}
 use Rattle.std.proofs.lemmas.List.{drop_more, drop_all}
 use mathlib.Core.Former.{Count}
-use Rattle.pgw_meta.specs.Shape.{Shape, composite, Shapes, no_shapes, shape_then, count_shapes}
+use Rattle.pgw_meta.specs.Shape.{composite, shape_then, count_shapes}
 use Rattle.pgw_meta.specs.Types.{shape, shapes, row_shapes, types_of}
 use Rattle.std.specs.Option.{option_or}
 use Rattle.pgw_meta.specs.Schema.{part_fault, width_fault, fault_at}

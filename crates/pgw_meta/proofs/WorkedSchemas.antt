@@ -3,7 +3,7 @@ use Rattle.std.proofs.Common.{◌≡◌, ℕ, zero, suc, List, [], ◌∷◌, So
 use Rattle.pgw_meta.specs.declared.schema.SchemaError.TheVariants.{NoColumns, NestedNullable, NestedArray, BadRange, EmptyRecord, BadNamed, TooDeep}
 use Rattle.pgw_meta.specs.Known.{Key}
 use Rattle.pgw_meta.specs.Shape.{Shape, scalar, int4, int8, text, uuid, timestamptz, nullable, array, range, multirange, composite, named, no_shapes, shape_then}
-use Rattle.pgw_meta.specs.Schema.{IsValidSchema, IsValidColumn, schema_fault}
+use Rattle.pgw_meta.specs.Schema.{IsValidSchema, schema_fault}
 
 -- the key `citext`, in no schema that is said
 abbrev citext : Key

@@ -1,6 +1,6 @@
 -- The oids that metadata hold, or the key that was looked up and is not known.
 use Rattle.std.specs.Borrow.{Bor}
-use Rattle.std.specs.Prelude.{ℕ, Option, Result}
+use Rattle.std.specs.Prelude.{ℕ, Result}
 use Rattle.std.specs.Option.{ok_or}
 use Rattle.std.specs.Result.{result_map_both}
 use Rattle.pgw_meta.specs.Known.{Key, Oids, Known}

@@ -1,4 +1,4 @@
-use Rattle.std.proofs.Common.{◌≡◌, ◌∙◌, Some, refl, sym, ap}
+use Rattle.std.proofs.Common.{◌∙◌, Some, refl, sym, ap}
 use Rattle.std.specs.Result.{result_err}
 use Rattle.std.proofs.lemmas.Result.{err_from_is_err_and}
 use Rattle.pgw_meta.proofs.Views.{parts_err, parts_ok, parts_done, record_fault}
