@@ -1,10 +1,9 @@
 -- What reaches a lent writer through a buffer in front of it.
-use Rattle.std.proofs.Common.{◌≡◌, ◌≢◌, ◌∙◌, ◌⊎◌, ℕ, zero, suc, ◌+◌, ◌-◌, ◌≤◌, List, [], ◌∷◌, ◌++◌, Bool, true, false, length, length-append, append_assoc, append-nil, take, Option, None, Some, refl, sym, ap, subst, inl, inr, arith}
-use Rattle.std.proofs.lemmas.List.{length-take-le}
+use Rattle.std.proofs.Common.{◌≡◌, ◌∙◌, ℕ, ◌-◌, ◌≤◌, List, [], ◌∷◌, ◌++◌, true, false, length, append_assoc, append-nil, Option, None, Some, refl, sym, ap, subst, inl, inr, arith}
 use Rattle.std.specs.Prelude.{IfSome}
 use Rattle.std.specs.Io.KnownBytes.{Appends, Consumes, IsAtEnd, Keeps, append_known}
-use Rattle.pgw_wire.specs.Outside.{SourceState, SinkState, left, gained, Took, Wrote, WroteFront}
-use Rattle.pgw_wire.proofs.Taking.{took_from, ended}
+use Rattle.pgw_wire.specs.Outside.{SourceState, SinkState, left, gained, Took, WroteFront}
+use Rattle.pgw_wire.proofs.Taking.{ended}
 use Rattle.pgw_tree.specs.declared.fault.CopyFault.{CopyFault}
 use Rattle.pgw_tree.specs.Tree.{Shape}
 use Rattle.pgw_tree.specs.Limits.{Limits}

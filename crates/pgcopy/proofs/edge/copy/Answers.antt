@@ -1,6 +1,6 @@
 use Rattle.std.proofs.Common.{◌≡◌, ◌∙◌, ◌⊎◌, ℕ, List, [], ◌++◌, Option, None, Some, refl, sym, ap, subst, inl, inr}
 use Rattle.std.specs.Prelude.{◌==◌, ◌≢◌, true, if◌then◌else◌}
-use Rattle.std.specs.Io.KnownBytes.{Appends, prepend_known}
+use Rattle.std.specs.Io.KnownBytes.{prepend_known}
 use Rattle.pgw_wire.specs.Outside.{SourceState, SinkState, left, Wrote}
 use Rattle.pgw_wire.proofs.Taking.{took_from, ended}
 use Rattle.pgw_tree.specs.declared.fault.CopyFault.{CopyFault}
