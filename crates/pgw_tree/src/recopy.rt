@@ -60,7 +60,7 @@ fn copy_stream<S: Source, K: Sink>(
 /// |---|---|---|
 /// | `BadHeader` | the first 19 bytes begin no stream, or state, behind good flags, a negative length of the extension | nothing |
 /// | `BadFlags` | a bit of the high half of the flags is set | nothing |
-/// | `Truncated` | the source ended inside the header | nothing |
+/// | `Truncated` | the source ended before it had 19 bytes, whatever these are, or inside the header's extension | nothing |
 /// | `Truncated` | it ended inside a row, or where a row or the end has to come | header and rows before |
 /// | `BadFieldCount` | a row's count is below -1 | header and rows before |
 /// | `RowLimit` | as many rows as the limit were copied, and another count is there | header and rows before |
@@ -68,7 +68,7 @@ fn copy_stream<S: Source, K: Sink>(
 /// | `BadValue` | a field spells no value of its column's type | header and rows before |
 /// | `TooLong` | a value has more canonical bytes than the limit | header and rows before |
 /// | `ReadFault` | the source failed | nothing, or header and rows before |
-/// | `WriteFault` | the sink failed | header and rows; the end of what was written last may be missing |
+/// | `WriteFault` | the sink failed | header and rows, and at a failed flush the end; of what was written last the end may be missing |
 /// | `NoMemory` | memory was asked for and refused | nothing, or header and rows before |
 ///
 /// Rows that stand whole in what the source shows are copied from there: those that are canonical as they stand in one piece,
