@@ -9,13 +9,15 @@ use std::borrow::CowStr;
 pub struct Dummy;
 
 impl PgMetadataLookup for Dummy {
-    ghost use Rattle.std.specs.Prelude.{true, Some, None};
+    ghost use Rattle.std.specs.Prelude.{true, Some, None, refl};
 
     ghost state = { λ _. record {
       told = record { known = Some (λ _. None); faultless = true };
       fault_count = 0;
       origin = tt;
     } };
+
+    ghost quiet = { λ _ _. refl };
 
     fn lookup_type(
         &mut self,

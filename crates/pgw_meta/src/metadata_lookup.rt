@@ -38,6 +38,9 @@ pub trait PgMetadataLookup {
     /// many of its calls failed, a count that stops at the largest `u64`.
     ghost state: { Self → LookupState };
 
+    /// One that never fails counts no failed call.
+    ghost quiet: { (lookup : Self) → IsTrue (state lookup).told.faultless → (state lookup).fault_count ≡ 0 };
+
     /// Looks up the oids of the type of this name, in this schema or in none that is said. Ok has the oids exactly where the
     /// key is known, and else the key itself. `Failed` comes only where the count of faults rises. No call changes what is
     /// known.
@@ -55,6 +58,5 @@ pub trait PgMetadataLookup {
 
     /// How many lookups failed so far.
     fn faults(&self) -> u64
-        ensures count { result ≡ (state self.now).fault_count }
-        ensures faultless { IsTrue (state self.now).told.faultless → result ≡ 0 };
+        ensures { result ≡ (state self.now).fault_count };
 }
