@@ -1,0 +1,6 @@
+pub mod Sized
+pub mod Whole
+pub mod Leading
+pub mod Bytea
+pub mod Text
+pub mod Refusals
