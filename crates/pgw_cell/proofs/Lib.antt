@@ -1,0 +1,10 @@
+pub mod Told
+pub mod Spellings
+pub mod Pieces
+pub mod Reading
+pub mod Written
+pub mod Measured
+pub mod PlainFields
+pub mod ReadCells
+pub mod WroteCells
+pub mod WorkedCells

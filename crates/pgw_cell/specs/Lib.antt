@@ -1,0 +1,9 @@
+pub mod Value
+pub mod Built
+pub mod Spellings
+pub mod Pieces
+pub mod Cells
+pub mod Written
+pub mod Plain
+pub mod Data
+pub mod Wrote

@@ -1,0 +1,14 @@
+-- The values of columns as plain data, without how a program keeps them.
+use Rattle.std.specs.Prelude.{ℕ, ℤ, pos, Bool, List}
+
+-- a string is the bytes of its UTF-8
+pub data Value : Type 0 where
+  null : Value
+  truth : Bool → Value
+  number : ℤ → Value
+  bytes : List ℕ → Value
+  string : List ℕ → Value
+
+-- a number without a sign
+abbrev pub natural : ℕ → Value
+natural n = number (pos n)

@@ -1,0 +1,27 @@
+//! The cells of a COPY row by the types of their columns: what they are read as, how values are written, how many bytes
+//! the canonical form has, and the canonical form of a cell written without making its value. A cell is null or the
+//! bytes of a field. Of the types of `PgType` those have values here that have a spelling in the table of scalar types
+//! (`specs/Spellings.antt`), and these or null.
+#![tactic(auto)]
+
+mod byte_list;
+mod datum;
+pub mod laws;
+mod measure;
+mod piece;
+mod plain;
+mod read;
+mod rewrite;
+mod utf8;
+mod write;
+
+pub use byte_list::ByteList;
+pub use datum::Datum;
+pub use measure::{MeasureFault, measure_cell};
+pub use plain::PlainCell;
+pub use read::{CellFault, read_cell};
+pub use rewrite::rewrite_cell;
+pub use write::{WriteCellFault, write_cell};
+
+#[cfg(test)]
+mod tests;

@@ -1,0 +1,132 @@
+ghost use Rattle.std.specs.Prelude.{◌≡◌, ◌<◌, ◌≤◌, ◌+◌, ◌++◌, ℕ, length, get_or};
+ghost use Rattle.pgw_scalar.specs.Sized.{read_sized};
+ghost use Rattle.pgw_scalar.specs.Text.{read_text};
+ghost use Rattle.pgw_meta.specs.Types.{shape};
+ghost use Rattle.pgw_meta.specs.Shape.{scalar, bool};
+ghost use Rattle.pgw_cell.specs.Written.{bytes_of, written_bytes, canonical_read, front_read};
+
+use crate::utf8::is_text;
+use pgw_meta::PgType;
+use pgw_wire::{Break, ByteBuffer};
+
+/// What the value that a piece spells is written as.
+#[derive(Clone, Copy)]
+pub(crate) enum Canonical<'a> {
+    /// The byte of a truth: 1, or 0 where it does not hold.
+    Truth(bool),
+    /// Bytes that stand in the piece.
+    Bytes(&'a [u8]),
+}
+
+impl<'a> Canonical<'a> {
+    /// How many bytes that are.
+    #[inline(always)]
+    pub(crate) fn len(self) -> usize
+        ensures { result ≡ length (bytes_of self.entry) }
+    {
+        match self {
+            Canonical::Truth(_) => 1,
+            Canonical::Bytes(bytes) => bytes.len(),
+        }
+    }
+
+    /// Appends the bytes into the room that was made for them.
+    #[inline(always)]
+    pub(crate) fn push_reserved(self, out: &mut ByteBuffer)
+        requires { length (bytes_of self) ≤ out.old.spare }
+        ensures bytes { out.new.bytes ≡ out.old.bytes ++ bytes_of self.entry }
+        ensures spare { out.new.spare + length (bytes_of self.entry) ≡ out.old.spare }
+    {
+        match self {
+            Canonical::Truth(truth) => out.push_reserved(&[u8::from(truth)]),
+            Canonical::Bytes(bytes) => out.push_reserved(bytes),
+        }
+    }
+}
+
+/// The bytes of a piece are numbers below 256. It does nothing: it is called for what it ensures.
+#[inline(always)]
+pub(crate) fn are_bytes(piece: &[u8])
+    ensures { (i : ℕ) → get_or piece.now i 0 < 256 }
+{}
+
+/// The whole piece, where it has this size.
+#[inline(always)]
+fn whole(size: usize, piece: &[u8]) -> Result<Canonical<'_>, Break>
+    ensures { written_bytes result ≡ read_sized size (λ p. p) piece.now }
+{
+    if piece.len() == size {
+        Ok(Canonical::Bytes(piece))
+    } else {
+        Err(Break::Size)
+    }
+}
+
+/// The first bytes of the piece, where it has as many.
+#[inline(always)]
+fn front(size: usize, piece: &[u8]) -> Result<Canonical<'_>, Break>
+    ensures { written_bytes result ≡ front_read size piece.now }
+{
+    if piece.len() < size {
+        Err(Break::Size)
+    } else {
+        Ok(Canonical::Bytes(&piece[..size]))
+    }
+}
+
+#[inline(always)]
+fn truth(piece: &[u8]) -> Result<Canonical<'_>, Break>
+    ensures { written_bytes result ≡ canonical_read (scalar bool) piece.now }
+{
+    match piece {
+        [first, ..] => Ok(Canonical::Truth(*first != 0)),
+        [] => Err(Break::Size),
+    }
+}
+
+#[inline(always)]
+fn text(piece: &[u8]) -> Result<Canonical<'_>, Break>
+    ensures { written_bytes result ≡ read_text piece.now }
+{
+    if is_text(piece) {
+        Ok(Canonical::Bytes(piece))
+    } else {
+        Err(Break::Utf8)
+    }
+}
+
+/// What the value that a piece of the type spells is written as, or the kind in which the piece breaks.
+#[inline(always)]
+pub(crate) fn written<'a>(t: &PgType, piece: &'a [u8]) -> Result<Canonical<'a>, Break>
+    ensures { written_bytes result ≡ canonical_read (shape t.now) piece.now }
+{
+    match t {
+        PgType::Bool => truth(piece),
+        PgType::Char => front(1, piece),
+        PgType::Int2 => whole(2, piece),
+        PgType::Int4 => whole(4, piece),
+        PgType::Int8 => whole(8, piece),
+        PgType::Oid => front(4, piece),
+        PgType::Text => text(piece),
+        PgType::Bytea => Ok(Canonical::Bytes(piece)),
+        PgType::Uuid => whole(16, piece),
+        PgType::Money => whole(8, piece),
+        PgType::Lsn => whole(8, piece),
+        PgType::Mac => whole(6, piece),
+        PgType::Mac8 => whole(8, piece),
+        PgType::Nullable(part) => written(part, piece),
+        PgType::Inet
+        | PgType::Cidr
+        | PgType::Date
+        | PgType::Time
+        | PgType::Timestamp
+        | PgType::Timestamptz
+        | PgType::Interval
+        | PgType::Numeric
+        | PgType::Array(_)
+        | PgType::Range(_)
+        | PgType::Multirange(_)
+        | PgType::Record(_)
+        | PgType::Named(..) => Err(Break::Size),
+    }
+}

@@ -1,0 +1,229 @@
+ghost use Rattle.std.specs.Prelude.{◌≡◌, ℕ, Err, IfOk, IsTrue, MatchResult};
+ghost use Rattle.std.specs.Int.{w16, w32, w64, from_be_bytes, cast_signed};
+ghost use Rattle.pgw_wire.specs.Cell.{cell_of};
+ghost use Rattle.pgw_wire.specs.declared.kind.Break.{Break as Kind};
+ghost use Rattle.pgw_meta.specs.Types.{shape};
+ghost use Rattle.pgw_scalar.specs.Sized.{read_sized};
+ghost use Rattle.pgw_scalar.specs.Leading.{read_bool, read_char, read_oid};
+ghost use Rattle.pgw_scalar.specs.Text.{read_text};
+ghost use Rattle.pgw_cell.specs.Value.{Value, truth, number, natural, string, bytes};
+ghost use Rattle.pgw_cell.specs.Built.{IsBuilt};
+ghost use Rattle.pgw_cell.specs.Spellings.{read_as};
+ghost use Rattle.pgw_cell.specs.Pieces.{read_piece};
+ghost use Rattle.pgw_cell.specs.Cells.{Spells, Breaks, read_value};
+ghost use Rattle.pgw_cell.specs.Data.{value_of, takes_memory, AnswersAs};
+ghost use Rattle.pgw_cell.specs.Written.{AreBytes};
+
+use crate::measure::is_nullable;
+use crate::piece::are_bytes;
+use crate::{ByteList, Datum};
+use pgw_meta::{NameText, PgType};
+use pgw_wire::{Break, NoMemory as NoMemoryLeft, RawCell};
+use std::alloc::Global;
+use thiserror::Error;
+
+/// Why no value was read from a cell.
+#[derive(Clone, Copy, Debug, PartialEq, Eq, Error)]
+pub enum CellFault {
+    /// The cell breaks in this kind.
+    #[error(transparent)]
+    Break(Break),
+    /// Memory was asked for and refused.
+    #[error("out of memory")]
+    NoMemory,
+}
+
+impl From<NoMemoryLeft> for CellFault {
+    ghost use Rattle.pgw_cell.specs.declared.read.CellFault.TheVariants.{NoMemory as no_memory};
+
+    ghost from_gives = { λ _ e. e ≡ no_memory };
+
+    fn from(_: NoMemoryLeft) -> CellFault {
+        CellFault::NoMemory
+    }
+}
+
+fn read_bool(piece: &[u8]) -> Result<bool, Break>
+    ensures { result ≡ read_bool piece.now }
+{
+    match piece {
+        [first, ..] => Ok(*first != 0),
+        [] => Err(Break::Size),
+    }
+}
+
+fn read_char(piece: &[u8]) -> Result<u64, Break>
+    ensures { result ≡ read_char piece.now }
+{
+    match piece {
+        [first, ..] => Ok(u64::from(*first)),
+        [] => Err(Break::Size),
+    }
+}
+
+fn read_int2(piece: &[u8]) -> Result<i128, Break>
+    ensures { result ≡ read_sized 2 (λ q. cast_signed w16 (from_be_bytes w16 q)) piece.now }
+{
+    match piece.as_array::<2>() {
+        Some(bytes) => Ok(i128::from(i16::from_be_bytes(*bytes))),
+        None => Err(Break::Size),
+    }
+}
+
+fn read_int4(piece: &[u8]) -> Result<i128, Break>
+    ensures { result ≡ read_sized 4 (λ q. cast_signed w32 (from_be_bytes w32 q)) piece.now }
+{
+    match piece.as_array::<4>() {
+        Some(bytes) => Ok(i128::from(i32::from_be_bytes(*bytes))),
+        None => Err(Break::Size),
+    }
+}
+
+fn read_int8(piece: &[u8]) -> Result<i128, Break>
+    ensures { result ≡ read_sized 8 (λ q. cast_signed w64 (from_be_bytes w64 q)) piece.now }
+{
+    match piece.as_array::<8>() {
+        Some(bytes) => Ok(i128::from(i64::from_be_bytes(*bytes))),
+        None => Err(Break::Size),
+    }
+}
+
+fn read_lsn(piece: &[u8]) -> Result<u64, Break>
+    ensures { result ≡ read_sized 8 (from_be_bytes w64) piece.now }
+{
+    match piece.as_array::<8>() {
+        Some(bytes) => Ok(u64::from_be_bytes(*bytes)),
+        None => Err(Break::Size),
+    }
+}
+
+fn read_oid(piece: &[u8]) -> Result<u64, Break>
+    ensures { result ≡ read_oid piece.now }
+{
+    match piece.first_chunk::<4>() {
+        Some(bytes) => Ok(u64::from(u32::from_be_bytes(*bytes))),
+        None => Err(Break::Size),
+    }
+}
+
+fn truth(read: Result<bool, Break>) -> Result<Datum, CellFault>
+    ensures { AnswersAs result (read_as truth read) }
+{
+    match read {
+        Ok(truth) => Ok(Datum::Truth(truth)),
+        Err(kind) => Err(CellFault::Break(kind)),
+    }
+}
+
+fn number(read: Result<i128, Break>) -> Result<Datum, CellFault>
+    ensures { AnswersAs result (read_as number read) }
+{
+    match read {
+        Ok(number) => Ok(Datum::Number(number)),
+        Err(kind) => Err(CellFault::Break(kind)),
+    }
+}
+
+fn natural(read: Result<u64, Break>) -> Result<Datum, CellFault>
+    ensures { AnswersAs result (read_as natural read) }
+{
+    match read {
+        Ok(number) => Ok(Datum::Number(i128::from(number))),
+        Err(kind) => Err(CellFault::Break(kind)),
+    }
+}
+
+fn read_text(alloc: Global, piece: &[u8]) -> Result<Datum, CellFault>
+    ensures { AnswersAs result (read_as string (read_text piece.now)) }
+{
+    match str::from_utf8(piece) {
+        Ok(text) => Ok(Datum::Text(NameText::from_str(alloc, text)?)),
+        Err(_) => Err(CellFault::Break(Break::Utf8)),
+    }
+}
+
+fn read_bytes(alloc: Global, piece: &[u8]) -> Result<Datum, CellFault>
+    ensures { AnswersAs result (Ok (bytes piece.now)) }
+{
+    Ok(Datum::Bytes(ByteList::from_slice(alloc, piece)?))
+}
+
+fn read_sized(alloc: Global, size: usize, piece: &[u8]) -> Result<Datum, CellFault>
+    ensures { AnswersAs result (read_as bytes (read_sized size (λ q. q) piece.now)) }
+{
+    if piece.len() == size {
+        read_bytes(alloc, piece)
+    } else {
+        Err(CellFault::Break(Break::Size))
+    }
+}
+
+fn read_piece(alloc: Global, t: &PgType, piece: &[u8]) -> Result<Datum, CellFault>
+    ensures { AnswersAs result (read_piece (shape t.now) piece.now) }
+{
+    match t {
+        PgType::Bool => truth(read_bool(piece)),
+        PgType::Char => natural(read_char(piece)),
+        PgType::Int2 => number(read_int2(piece)),
+        PgType::Int4 => number(read_int4(piece)),
+        PgType::Int8 => number(read_int8(piece)),
+        PgType::Oid => natural(read_oid(piece)),
+        PgType::Text => read_text(alloc, piece),
+        PgType::Bytea => read_bytes(alloc, piece),
+        PgType::Uuid => read_sized(alloc, 16, piece),
+        PgType::Money => number(read_int8(piece)),
+        PgType::Lsn => natural(read_lsn(piece)),
+        PgType::Mac => read_sized(alloc, 6, piece),
+        PgType::Mac8 => read_sized(alloc, 8, piece),
+        PgType::Nullable(part) => read_piece(alloc, part, piece),
+        PgType::Inet
+        | PgType::Cidr
+        | PgType::Date
+        | PgType::Time
+        | PgType::Timestamp
+        | PgType::Timestamptz
+        | PgType::Interval
+        | PgType::Numeric
+        | PgType::Array(_)
+        | PgType::Range(_)
+        | PgType::Multirange(_)
+        | PgType::Record(_)
+        | PgType::Named(..) => Err(CellFault::Break(Break::Size)),
+    }
+}
+
+fn read(alloc: Global, t: &PgType, cell: RawCell<'_>) -> Result<Datum, CellFault>
+    ensures value { AnswersAs result (read_value (shape t.now) (cell_of cell.entry)) }
+    ensures bytes { AreBytes (cell_of cell.entry) }
+{
+    match cell {
+        RawCell::Null => {
+            if is_nullable(t) {
+                Ok(Datum::Null)
+            } else {
+                Err(CellFault::Break(Break::Null))
+            }
+        }
+        RawCell::Piece(piece) => {
+            are_bytes(piece);
+            read_piece(alloc, t, piece)
+        }
+    }
+}
+
+/// The value that the cell spells. `Break` exactly where the cell breaks in this kind. `NoMemory` only where it spells
+/// a value that takes memory: a text, or bytes.
+pub fn read_cell(alloc: Global, t: &PgType, cell: RawCell<'_>) -> Result<Datum, CellFault>
+    requires { IsBuilt (shape t.now) }
+    ensures ok { IfOk result (λ value. Spells (shape t.now) (cell_of cell.entry) (value_of value)) }
+    ensures spells { (v : Value) → Spells (shape t.now) (cell_of cell.entry) v
+        → MatchResult result (λ value. value_of value ≡ v) (λ fault. fault ≡ CellFault.NoMemory) }
+    ensures broken { (kind : Kind) → result ≡ Err (CellFault.Break kind)
+        → Breaks (shape t.now) kind (cell_of cell.entry) }
+    ensures breaks { (kind : Kind) → Breaks (shape t.now) kind (cell_of cell.entry)
+        → result ≡ Err (CellFault.Break kind) }
+    ensures memory { result ≡ Err CellFault.NoMemory → (v : Value) × Spells (shape t.now) (cell_of cell.entry) v
+        × IsTrue (takes_memory v) }
+{
+    read(alloc, t, cell)
+}

@@ -1,0 +1,193 @@
+ghost use Rattle.pgw_meta.specs.Types.{shape};
+ghost use Rattle.pgw_cell.specs.Built.{IsBuilt};
+
+use crate::{
+    ByteList, CellFault, Datum, MeasureFault, PlainCell, WriteCellFault, laws, measure_cell,
+    read_cell, rewrite_cell, write_cell,
+};
+use pgw_meta::{FoundOids, NameText, PgType};
+use pgw_wire::{Break, ByteBuffer, RawCell};
+use std::alloc::Global;
+use std::test::Fail;
+
+/// What is measured of a piece, at a limit of 16 bytes.
+fn measured(t: &PgType, piece: &[u8]) -> Result<usize, MeasureFault>
+    requires { IsBuilt (shape t.now) }
+{
+    measure_cell(t, RawCell::Piece(piece), 16)
+}
+
+#[test]
+fn pieces_are_measured(rt: HostRuntime) {
+    let answers = [
+        measured(&PgType::Bool, b"\x02\xaa\xbb"),
+        measured(&PgType::Bool, b""),
+        measured(&PgType::Char, b"A\xff"),
+        measured(&PgType::Int2, b"\0\0\x2a"),
+        measured(&PgType::Int4, b"\0\0\x2a"),
+        measured(&PgType::Int8, b"\0\0\0\0\0\0\0\x2a"),
+        measured(&PgType::Oid, b"\0\0\0\x2a\xff"),
+        measured(&PgType::Oid, b"\0\0\x2a"),
+        measured(&PgType::Text, b"\xc3\x28"),
+        measured(&PgType::Text, b"0123456789abcdef"),
+        measured(&PgType::Text, b"0123456789abcdef0"),
+        measured(&PgType::Text, b"0123456789abcdef\xff"),
+        measured(&PgType::Bytea, b""),
+        measured(&PgType::Uuid, b"0123456789abcde"),
+    ];
+    let size = Err(MeasureFault::Break(Break::Size));
+    let utf8 = Err(MeasureFault::Break(Break::Utf8));
+    let expected = [
+        Ok(5),
+        size,
+        Ok(5),
+        size,
+        size,
+        Ok(12),
+        Ok(8),
+        size,
+        utf8,
+        Ok(20),
+        Err(MeasureFault::TooLong),
+        utf8,
+        Ok(4),
+        size,
+    ];
+    assert!(rt; answers == expected);
+}
+
+/// Why the cell is not read.
+fn fault(alloc: Global, t: &PgType, cell: RawCell<'_>) -> Option<CellFault>
+    requires { IsBuilt (shape t.now) }
+{
+    read_cell(alloc, t, cell).err()
+}
+
+#[test]
+fn cells_break_where_they_are_read(rt: HostRuntime) -> Result<(), Fail> {
+    let alloc = rt.alloc();
+    let number = PgType::Nullable(Box::new(alloc, PgType::Int4)?);
+    let faults = [
+        fault(alloc, &PgType::Char, RawCell::Piece(b"")),
+        fault(alloc, &PgType::Lsn, RawCell::Piece(b"\0\0\0\0\0\0\0")),
+        fault(alloc, &PgType::Mac8, RawCell::Piece(b"\0\0\0\0\0\0")),
+        fault(alloc, &PgType::Text, RawCell::Piece(b"\xc3\x28")),
+        fault(alloc, &PgType::Int4, RawCell::Null),
+        fault(alloc, &number, RawCell::Null),
+        fault(alloc, &number, RawCell::Piece(b"\0\0\0\x2a")),
+    ];
+    let size = Some(CellFault::Break(Break::Size));
+    let utf8 = Some(CellFault::Break(Break::Utf8));
+    let null = Some(CellFault::Break(Break::Null));
+    assert!(rt; faults == [size, size, size, utf8, null, None, None]);
+    Ok(())
+}
+
+/// Two buffers, for the canonical fields of cells and for those of the values that they spell.
+#[derive(Drop)]
+struct Both {
+    found: FoundOids,
+    rewritten: ByteBuffer,
+    written: ByteBuffer,
+}
+
+impl Both {
+    fn cell(&mut self, t: &PgType, cell: RawCell<'_>) -> Result<(), Fail>
+        requires { IsBuilt (shape t.now) }
+    {
+        let len = measure_cell(t, cell, 16)?;
+        self.rewritten.reserve(len)?;
+        rewrite_cell(t, cell, &self.found, &mut self.rewritten);
+        let value = read_cell(self.written.alloc(), t, cell)?;
+        laws::spelled_has_type(t, cell);
+        write_cell(t, &value, &self.found, 16, &mut self.written)?;
+        Ok(())
+    }
+
+    fn piece(&mut self, t: &PgType, piece: &[u8]) -> Result<(), Fail>
+        requires { IsBuilt (shape t.now) }
+    {
+        self.cell(t, RawCell::Piece(piece))
+    }
+}
+
+const CANONICAL: &[u8] = b"\0\0\0\x01\x01\0\0\0\x01A\0\0\0\x02\xff\xfe\
+    \0\0\0\x04\xff\0\0\x2a\0\0\0\x08\xff\0\0\0\0\0\0\x01\0\0\0\0\
+    \0\0\0\x100123456789abcdef\0\0\0\x02\xc3\xa9\xff\xff\xff\xff";
+
+#[test]
+fn cells_are_written_in_their_canonical_form(rt: HostRuntime) -> Result<(), Fail> {
+    let alloc = rt.alloc();
+    let text = PgType::Nullable(Box::new(alloc, PgType::Text)?);
+    let mut both = Both {
+        found: FoundOids::new(alloc),
+        rewritten: ByteBuffer::new(alloc),
+        written: ByteBuffer::new(alloc),
+    };
+    both.piece(&PgType::Bool, b"\x02\xaa\xbb")?;
+    both.piece(&PgType::Char, b"A\xff")?;
+    both.piece(&PgType::Int2, b"\xff\xfe")?;
+    both.piece(&PgType::Oid, b"\xff\0\0\x2a\x07")?;
+    both.piece(&PgType::Lsn, b"\xff\0\0\0\0\0\0\x01")?;
+    both.piece(&PgType::Bytea, b"")?;
+    both.piece(&PgType::Uuid, b"0123456789abcdef")?;
+    both.piece(&text, b"\xc3\xa9")?;
+    both.cell(&text, RawCell::Null)?;
+    let bytes = (both.rewritten.as_bytes(), both.written.as_bytes());
+    assert!(rt; bytes == (CANONICAL, CANONICAL));
+    Ok(())
+}
+
+/// How many bytes stand behind the field at the front that is canonical as it stands, of at most 4 bytes.
+fn behind(t: &PgType, bytes: &[u8]) -> Option<usize> {
+    Some(PlainCell::of(t).behind_field(4, bytes)?.len())
+}
+
+#[test]
+fn fields_pass_as_they_stand(rt: HostRuntime) -> Result<(), Fail> {
+    let text = PgType::Nullable(Box::new(rt.alloc(), PgType::Text)?);
+    let behind = [
+        behind(&PgType::Bool, b"\0\0\0\x01\x01\x07"),
+        behind(&PgType::Bool, b"\0\0\0\x01\x02\x07"),
+        behind(&PgType::Int4, b"\0\0\0\x04\0\0\0\x2a\x07\x07"),
+        behind(&PgType::Int4, b"\xff\xff\xff\xff\x07"),
+        behind(&PgType::Int8, b"\0\0\0\x08\0\0\0\0\0\0\0\x2a"),
+        behind(&PgType::Bytea, b"\0\0\0\x01\xff"),
+        behind(&text, b"\0\0\0\x02\xc3\xa9\x07"),
+        behind(&text, b"\0\0\0\x02\xc3\x28\x07"),
+        behind(&text, b"\xff\xff\xff\xff\x07\x07\x07"),
+        behind(&PgType::Inet, b"\0\0\0\x01\xff"),
+    ];
+    let expected = [
+        Some(1),
+        None,
+        Some(2),
+        None,
+        None,
+        Some(0),
+        Some(1),
+        None,
+        Some(3),
+        None,
+    ];
+    assert!(rt; behind == expected);
+    assert!(rt; PlainCell::of(&PgType::Int4) == PlainCell::four_bytes());
+    Ok(())
+}
+
+#[test]
+fn values_own_their_bytes(rt: HostRuntime) -> Result<(), Fail> {
+    let alloc = rt.alloc();
+    let mut list = ByteList::new(alloc);
+    list.push(7)?;
+    assert!(rt; (list.len(), list.get(0), list.get(1)) == (1, Some(&7), None));
+    assert!(rt; ByteList::from_slice(alloc, &[7])?.as_slice() == list.as_slice());
+    let text = Datum::Text(NameText::from_str(alloc, "abc")?);
+    let found = FoundOids::new(alloc);
+    let mut out = ByteBuffer::new(alloc);
+    let short = write_cell(&PgType::Text, &text, &found, 2, &mut out);
+    let fits = write_cell(&PgType::Text, &text, &found, 3, &mut out);
+    assert!(rt; (short, fits) == (Err(WriteCellFault::TooLong), Ok(())));
+    assert!(rt; out.as_bytes() == b"\0\0\0\x03abc".as_slice());
+    Ok(())
+}
