@@ -6,8 +6,9 @@
 //! instead.
 //!
 //! There is one buffer of input, which is gone through once. A row that is canonical as it stands
-//! is not written anew: such rows are handed on together, as one run of the buffer. A null is
-//! respelled at its place, and fields behind the last column alone interrupt a run.
+//! is not written anew: such rows are handed on together, as one run of the buffer. A null and the
+//! byte of a bool are respelled at their place. Only bytes that are dropped interrupt a run: those
+//! behind the value of a bool, a char or an oid, and the fields behind the last column.
 
 use std::collections::TryReserveError;
 use std::env;
@@ -15,6 +16,7 @@ use std::ffi::OsString;
 use std::fmt::{self, Display, Formatter};
 use std::fs::File;
 use std::io::{self, BufWriter, ErrorKind, Read, Write};
+use std::mem;
 use std::os::fd::AsFd;
 use std::process::ExitCode;
 
@@ -23,6 +25,8 @@ const STEP: usize = 256 * 1024;
 /// How many bytes of short runs are kept in front of the output. A longer run is written from where
 /// it stands.
 const KEPT: usize = 64 * 1024;
+/// How many gaps of a run are kept, where no row has more.
+const GAPS: usize = 1024;
 /// The 11 bytes of the magic, then flags and the extension's length, which are 0.
 const HEADER: [u8; 19] = *b"PGCOPY\n\xff\r\n\0\0\0\0\0\0\0\0\0";
 /// The length of a null.
@@ -88,44 +92,79 @@ impl From<TryReserveError> for Fault {
     }
 }
 
+/// Which bytes spell a value, and how many of them the canonical field has.
 #[derive(Clone, Copy)]
 enum Type {
-    Int4,
+    /// So many bytes, which are all kept.
+    Exact(usize),
+    /// At least so many bytes, of which the first so many are kept.
+    Leading(usize),
+    /// At least one byte, of which the first is kept, as 0 or 1.
+    Bool,
     Text,
+    Bytea,
 }
 
 #[derive(Clone, Copy)]
 struct Column {
     of: Type,
     nullable: bool,
+    /// The length of a field that is canonical whatever its bytes are. No field has the length
+    /// `usize::MAX`.
+    usual: usize,
 }
 
 impl Column {
     fn named(word: &str) -> Option<Column> {
         let bare = word.strip_suffix('?');
         let of = match bare.unwrap_or(word) {
-            "int4" => Type::Int4,
+            "bool" => Type::Bool,
+            "char" => Type::Leading(1),
+            "int2" => Type::Exact(2),
+            "int4" => Type::Exact(4),
+            "int8" | "money" | "pg_lsn" | "macaddr8" => Type::Exact(8),
+            "oid" => Type::Leading(4),
             "text" => Type::Text,
+            "bytea" => Type::Bytea,
+            "uuid" => Type::Exact(16),
+            "macaddr" => Type::Exact(6),
             _ => return None,
         };
         Some(Column {
             of,
             nullable: bare.is_some(),
+            usual: usize::MAX,
         })
     }
 
-    /// Whether the bytes of a field, or None for a null, spell a value of at most `field_max`
-    /// bytes.
-    #[inline(always)]
-    fn check(self, field: Option<&[u8]>, field_max: usize) -> Result<(), &'static str> {
-        let Some(bytes) = field else {
-            return if self.nullable { Ok(()) } else { Err("null") };
-        };
+    /// The same, where a field has at most `field_max` bytes.
+    fn within(self, field_max: usize) -> Column {
         match self.of {
-            Type::Int4 if bytes.len() != 4 => Err("size"),
-            Type::Text if !is_text(bytes) => Err("utf8"),
-            _ if bytes.len() > field_max => Err("too long"),
-            _ => Ok(()),
+            Type::Exact(usual) | Type::Leading(usual) if usual <= field_max => {
+                Column { usual, ..self }
+            }
+            _ => self,
+        }
+    }
+
+    /// Whether a canonical field may have fewer bytes than one that is read.
+    fn shortens(&self) -> bool {
+        matches!(self.of, Type::Leading(_) | Type::Bool)
+    }
+}
+
+impl Type {
+    /// How many of these bytes the canonical field has, where they spell a value. Whether a text is
+    /// one is not looked at.
+    #[inline(always)]
+    fn kept(self, bytes: &[u8]) -> Result<usize, &'static str> {
+        match self {
+            Type::Exact(size) if bytes.len() != size => Err("size"),
+            Type::Leading(size) if bytes.len() < size => Err("size"),
+            Type::Bool if bytes.is_empty() => Err("size"),
+            Type::Exact(size) | Type::Leading(size) => Ok(size),
+            Type::Bool => Ok(1),
+            Type::Text | Type::Bytea => Ok(bytes.len()),
         }
     }
 }
@@ -162,6 +201,8 @@ struct Plan {
     rows_max: u64,
     field_max: usize,
     columns: Vec<Column>,
+    /// Whether the field of a column may lose bytes.
+    shortens: bool,
 }
 
 /// The number behind an option's `=`. `before` is the one of the same option that stands before it.
@@ -203,11 +244,18 @@ fn read_words(words: &[String]) -> Result<Plan> {
     }
     match columns.len() {
         0 => Err(Fault::Word(words.len(), "missing type")),
-        1..=COLUMNS_MAX => Ok(Plan {
-            rows_max: rows.unwrap_or(u64::MAX),
-            field_max: field.unwrap_or(FIELD_MAX) as usize,
-            columns,
-        }),
+        1..=COLUMNS_MAX => {
+            let field_max = field.unwrap_or(FIELD_MAX) as usize;
+            for column in &mut columns {
+                *column = column.within(field_max);
+            }
+            Ok(Plan {
+                rows_max: rows.unwrap_or(u64::MAX),
+                field_max,
+                shortens: columns.iter().any(Column::shortens),
+                columns,
+            })
+        }
         _ => Err(Fault::Word(words.len(), "schema fault 2")),
     }
 }
@@ -243,51 +291,150 @@ enum Stop {
     Bad(usize, &'static str),
 }
 
+/// A field that has more bytes than its canonical form.
+struct Surplus {
+    /// Where its length stands.
+    place: usize,
+    /// How many bytes behind the length are kept.
+    kept: usize,
+    /// Where it ends.
+    behind: usize,
+}
+
 impl Plan {
-    /// Checks the field of each column, of which the first is at a place. Makes each null
-    /// canonical, and answers where the last field ends.
+    /// Whether the bytes are a text within the limit. It stands apart from the other types, which
+    /// is faster.
     #[inline(always)]
-    fn check_fields(&self, bytes: &mut [u8], mut place: usize) -> Result<usize, Stop> {
+    fn check_text(&self, bytes: &[u8]) -> Result<(), &'static str> {
+        if !is_text(bytes) {
+            return Err("utf8");
+        }
+        if bytes.len() > self.field_max {
+            return Err("too long");
+        }
+        Ok(())
+    }
+
+    /// Checks the field of each column, of which the first is at a place. Makes each null and the
+    /// byte of each bool canonical, and answers where the last field ends. Of the fields that have
+    /// more bytes than they keep a list is made, since only a row that is taken may lose them.
+    /// `SHORTENS` tells whether a column may have such fields.
+    #[inline(always)]
+    fn check_fields<const SHORTENS: bool>(
+        &self,
+        bytes: &mut [u8],
+        mut place: usize,
+        surplus: &mut Vec<Surplus>,
+    ) -> Result<usize, Stop> {
+        if SHORTENS {
+            surplus.clear();
+        }
         for (column, of) in self.columns.iter().enumerate() {
+            let bad = |what| Stop::Bad(column, what);
             let (field, behind) = field_at(bytes, place).ok_or(Stop::Cut)?;
-            of.check(field, self.field_max)
-                .map_err(|what| Stop::Bad(column, what))?;
-            if field.is_none() {
-                bytes[place..behind].copy_from_slice(&NULL);
+            match field {
+                None if of.nullable => bytes[place..behind].copy_from_slice(&NULL),
+                None => return Err(bad("null")),
+                Some(field) if field.len() == of.usual => {}
+                Some(field) if matches!(of.of, Type::Text) => {
+                    self.check_text(field).map_err(bad)?
+                }
+                Some(field) => {
+                    let kept = of.of.kept(field).map_err(bad)?;
+                    if kept > self.field_max {
+                        return Err(bad("too long"));
+                    }
+                    if SHORTENS && kept < field.len() {
+                        surplus.push(Surplus {
+                            place,
+                            kept,
+                            behind,
+                        });
+                    }
+                    if SHORTENS && matches!(of.of, Type::Bool) {
+                        bytes[place + 4] = bytes[place + 4].min(1);
+                    }
+                }
             }
             place = behind;
         }
         Ok(place)
     }
+
+    /// How rows look that are canonical wherever their count and their lengths are right, where the
+    /// columns are such that there are some.
+    fn layout(&self) -> Result<Option<Layout>> {
+        let mut lengths = Vec::new();
+        lengths.try_reserve_exact(self.columns.len())?;
+        let mut size = 2;
+        for column in &self.columns {
+            if column.nullable || column.usual == usize::MAX {
+                return Ok(None);
+            }
+            lengths.push((size, (column.usual as u32).to_be_bytes()));
+            size += 4 + column.usual;
+        }
+        Ok(Some(Layout { size, lengths }))
+    }
 }
 
-/// Whether the count and the lengths of a row are those of values of `int4`.
-#[inline(always)]
-fn is_right(row: &[u8], columns: usize) -> bool {
-    let mut fields = row[2..].chunks_exact(8);
-    row[..2] == (columns as u16).to_be_bytes() && fields.all(|field| field[..4] == [0, 0, 0, 4])
+/// How rows of values look that all have one size.
+struct Layout {
+    /// How many bytes a row has.
+    size: usize,
+    /// Where the length of each field stands, and which it is.
+    lengths: Vec<(usize, [u8; 4])>,
 }
 
-/// How many rows in front have the count 1 and the length of an `int4`.
-fn right_numbers(rows: &[u8], most: usize) -> usize {
-    let rows = rows.chunks_exact(10).take(most);
-    rows.take_while(|row| row[..6] == [0, 1, 0, 0, 0, 4]).count()
+impl Layout {
+    /// How many rows in front, and at most how many, have this layout.
+    fn rows_in_front(&self, bytes: &[u8], most: usize) -> usize {
+        match self.lengths[..] {
+            [(_, length)] => match self.size {
+                10 => single_fields::<10>(bytes, most, length),
+                14 => single_fields::<14>(bytes, most, length),
+                _ => self.rows_of_fields(bytes, most),
+            },
+            _ => self.rows_of_fields(bytes, most),
+        }
+    }
+
+    fn rows_of_fields(&self, bytes: &[u8], most: usize) -> usize {
+        let count = (self.lengths.len() as u16).to_be_bytes();
+        let is_right = |row: &&[u8]| {
+            let mut lengths = self.lengths.iter();
+            row[..2] == count && lengths.all(|&(place, length)| row[place..place + 4] == length)
+        };
+        let rows = bytes.chunks_exact(self.size).take(most);
+        rows.take_while(is_right).count()
+    }
+}
+
+/// How many rows in front, and at most how many, have one field of this length, and `N` bytes.
+fn single_fields<const N: usize>(bytes: &[u8], most: usize, length: [u8; 4]) -> usize {
+    let [a, b, c, d] = length;
+    let rows = bytes.chunks_exact(N).take(most);
+    rows.take_while(|row| row[..6] == [0, 1, a, b, c, d])
+        .count()
 }
 
 struct Copier {
     plan: Plan,
-    /// Whether a row has a value of an `int4` in each column, which is within the limit.
-    numbers: bool,
+    layout: Option<Layout>,
     input: File,
     output: BufWriter<File>,
     /// The input that was read, up to `end`.
     buffer: Vec<u8>,
     end: usize,
     /// Where the row begins that is read now, and where the run in front of it begins, which is
-    /// canonical and not handed on yet.
+    /// canonical but for its gaps, and not handed on yet.
     row: usize,
     run: usize,
     rows: u64,
+    /// The fields of the row that have more bytes than they keep.
+    surplus: Vec<Surplus>,
+    /// What is dropped of the run: from where, and to where.
+    gaps: Vec<(usize, usize)>,
 }
 
 impl Copier {
@@ -295,17 +442,13 @@ impl Copier {
         let mut buffer = Vec::new();
         buffer.try_reserve_exact(STEP)?;
         buffer.resize(STEP, 0);
-        let number = |column: &Column| {
-            matches!(
-                column,
-                Column {
-                    of: Type::Int4,
-                    nullable: false
-                }
-            )
-        };
+        let shortened = plan.columns.iter().filter(|of| of.shortens()).count();
+        let mut surplus = Vec::new();
+        surplus.try_reserve_exact(shortened)?;
+        let mut gaps = Vec::new();
+        gaps.try_reserve_exact(GAPS + shortened)?;
         Ok(Copier {
-            numbers: plan.field_max >= 4 && plan.columns.iter().all(number),
+            layout: plan.layout()?,
             plan,
             input,
             output: BufWriter::with_capacity(KEPT, output),
@@ -314,16 +457,32 @@ impl Copier {
             row: 0,
             run: 0,
             rows: 0,
+            surplus,
+            gaps,
         })
     }
 
-    /// Hands on the run up to a place, and begins another run and another row behind it.
+    /// Hands on the run up to a place, and begins another run and another row behind it. The run has
+    /// no gaps.
     #[inline]
     fn hand_on(&mut self, to: usize, behind: usize) -> Result<()> {
         let handed = self.output.write_all(&self.buffer[self.run..to]);
         self.run = behind;
         self.row = behind;
         handed.map_err(|_| Fault::Write)
+    }
+
+    /// Hands on the run up to its last gap, if it has one, and begins another run behind that.
+    /// Where that fails nothing of the run is left.
+    fn hand_on_gaps(&mut self) -> Result<()> {
+        let mut run = mem::replace(&mut self.run, self.row);
+        for (from, to) in self.gaps.drain(..) {
+            let handed = self.output.write_all(&self.buffer[run..from]);
+            handed.map_err(|_| Fault::Write)?;
+            run = to;
+        }
+        self.run = run;
+        Ok(())
     }
 
     /// Reads on, where less than `wanted` bytes of the row are there. The row is moved to the front
@@ -333,6 +492,7 @@ impl Copier {
         if self.row > 0 {
             let row = self.row..self.end;
             self.end -= self.row;
+            self.hand_on_gaps()?;
             self.hand_on(row.start, 0)?;
             self.buffer.copy_within(row, 0);
         }
@@ -401,26 +561,30 @@ impl Copier {
         self.output.write_all(&HEADER).map_err(|_| Fault::Write)
     }
 
-    /// Passes over whole rows of numbers. They are canonical where their counts and lengths are
-    /// right.
-    fn pass_numbers(&mut self) {
-        let columns = self.plan.columns.len();
-        let size = 2 + 8 * columns;
+    /// Passes over whole rows that have the layout, if there is one.
+    fn pass_rows(&mut self) {
+        let Some(layout) = &self.layout else { return };
         let most = usize::try_from(self.plan.rows_max - self.rows).unwrap_or(usize::MAX);
-        let rows = &self.buffer[self.row..self.end];
-        let passed = if columns == 1 {
-            right_numbers(rows, most)
-        } else {
-            let rows = rows.chunks_exact(size).take(most);
-            rows.take_while(|row| is_right(row, columns)).count()
-        };
-        self.row += passed * size;
+        let passed = layout.rows_in_front(&self.buffer[self.row..self.end], most);
+        self.row += passed * layout.size;
         self.rows += passed as u64;
     }
 
-    /// Takes whole rows with a value for each column. They are canonical once their nulls are, and
-    /// once the fields behind the last column are dropped.
-    fn take_rows(&mut self) -> Result<()> {
+    /// Makes the lengths of the row's fields canonical, and a gap of what they do not keep. The gaps
+    /// are left out once the run is handed on, since bytes that were just written are slow to copy.
+    #[inline(always)]
+    fn shorten_row(&mut self) {
+        for field in &self.surplus {
+            let start = field.place + 4;
+            let length = (field.kept as u32).to_be_bytes();
+            self.buffer[field.place..start].copy_from_slice(&length);
+            self.gaps.push((start + field.kept, field.behind));
+        }
+    }
+
+    /// Takes whole rows with a value for each column. They are canonical once their nulls and bools
+    /// are, and once the bytes behind a value and the fields behind the last column are dropped.
+    fn take_rows<const SHORTENS: bool>(&mut self) -> Result<()> {
         let columns = self.plan.columns.len();
         while self.rows < self.plan.rows_max {
             let bytes = &mut self.buffer[..self.end];
@@ -430,17 +594,29 @@ impl Copier {
             if more < 0 {
                 break;
             }
-            let Ok(last) = self.plan.check_fields(bytes, self.row + 2) else {
-                break;
-            };
-            if more == 0 {
-                self.row = last;
-            } else {
-                let Some(behind) = behind_fields(bytes, last, more as usize) else {
+            let fields = self.row + 2;
+            let checked = self
+                .plan
+                .check_fields::<SHORTENS>(bytes, fields, &mut self.surplus);
+            let Ok(last) = checked else { break };
+            let mut behind = last;
+            if more > 0 {
+                let Some(end) = behind_fields(bytes, last, more as usize) else {
                     break;
                 };
-                bytes[self.row..self.row + 2].copy_from_slice(&(columns as u16).to_be_bytes());
+                bytes[self.row..fields].copy_from_slice(&(columns as u16).to_be_bytes());
+                behind = end;
+            }
+            if SHORTENS {
+                self.shorten_row();
+                if more > 0 || self.gaps.len() >= GAPS {
+                    self.hand_on_gaps()?;
+                }
+            }
+            if more > 0 {
                 self.hand_on(last, behind)?;
+            } else {
+                self.row = last;
             }
             self.rows += 1;
         }
@@ -452,8 +628,11 @@ impl Copier {
         if count < self.plan.columns.len() {
             return Fault::TooFewFields(self.rows);
         }
-        let fields = self.row + 2;
-        match self.plan.check_fields(&mut self.buffer[..self.end], fields) {
+        let (bytes, fields) = (&mut self.buffer[..self.end], self.row + 2);
+        match self
+            .plan
+            .check_fields::<true>(bytes, fields, &mut self.surplus)
+        {
             Err(Stop::Bad(column, what)) => Fault::BadField(self.rows, column, what),
             Ok(_) | Err(Stop::Cut) => unreachable!("a whole row of values is taken"),
         }
@@ -462,10 +641,12 @@ impl Copier {
     /// Takes all rows and the count -1 behind them.
     fn take_all(&mut self) -> Result<()> {
         loop {
-            if self.numbers {
-                self.pass_numbers();
+            self.pass_rows();
+            if self.plan.shortens {
+                self.take_rows::<true>()?;
+            } else {
+                self.take_rows::<false>()?;
             }
-            self.take_rows()?;
             if self.end - self.row < 2 {
                 self.want(2)?;
                 continue;
@@ -498,6 +679,7 @@ impl Copier {
         } else {
             self.row
         };
+        self.hand_on_gaps()?;
         self.hand_on(to, to)?;
         taken?;
         self.output.flush().map_err(|_| Fault::Write)?;

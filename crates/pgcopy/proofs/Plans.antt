@@ -1,5 +1,5 @@
 -- A plan of words, and the first fault of words, are what reading them from left to right finds.
-use Rattle.std.proofs.Common.{◌≡◌, ◌↔◌, ◌⊎◌, inl, inr, String, string_bytes, ℕ, ◌≤◌, ◌==◌, ◌&&◌, nat_lt, List, [], ◌∷◌, ◌++◌, length, map, codes, Option, None, Some, Result, Ok, Err, IsErr, IsOkAnd, IfOk, IfErr, Bool, true, false, refl, sym, ap, ◌∙◌, subst, arith, rules, if◌then◌else◌}
+use Rattle.std.proofs.Common.{◌≡◌, ◌↔◌, ◌⊎◌, inl, inr, String, string_bytes, ℕ, ◌≤◌, ◌==◌, ◌&&◌, nat_lt, List, [], ◌∷◌, ◌++◌, length, map, codes, Option, None, Some, option_map, Result, Ok, Err, IsErr, IsOkAnd, IfOk, IfErr, Bool, true, false, refl, sym, ap, ◌∙◌, subst, arith, rules, if◌then◌else◌}
 use Rattle.std.proofs.lemmas.Bool.{ne_eqb, eqb-false, le-ltb, ltb-false}
 use Rattle.std.proofs.lemmas.List.{append-nil, append_assoc, map-append}
 use Rattle.std.proofs.lemmas.List.Elements.{filter_map-append}
@@ -10,7 +10,7 @@ use Rattle.std.specs.Option.{is_some, is_none, option_map_or}
 use Rattle.std.specs.Result.{result_err}
 use Rattle.std.specs.Str.{bytes_eq}
 use Rattle.std.specs.Str.Parse.{digits_value}
-use Rattle.pgw_tree.specs.Tree.{Shape}
+use Rattle.pgw_meta.specs.Shape.{Shape}
 use Rattle.pgw_tree.specs.Limits.{Limits, default_limits}
 use Rattle.pgcopy.specs.declared.words.WordFault.{WordFault}
 use Rattle.pgcopy.specs.declared.words.WordFault.TheVariants.{UnknownCommand, NoTypes, Schema, NotYet}
@@ -493,3 +493,11 @@ fault_of_no_plan words none = told (plan_of words) refl ((no_plan words).1 none)
     told : (r : Result PlanData PlacedFault) → plan_of words ≡ r → IsErr r → (wrong : PlacedFault) × IsFirstFault (texts words) wrong
     told (Ok plan) is e = absurd (cc)
     told (Err wrong) is e = (wrong, found_is_first (texts words) wrong is)
+
+-- Where nothing is wrong with a single word, the first fault is what is wrong with the number of columns.
+pub wrong_together : (rest : List (List ℕ)) (place types : ℕ) (fault : WordFault) → place ≡ length (codes "copy" ∷ rest) → types ≡ length (filter_map type_of rest) → columns_fault types ≡ Some fault
+    → first_fault (codes "copy" ∷ []) rest ≡ first_fault (codes "copy" ∷ rest) [] → plan_of_texts (codes "copy" ∷ rest) ≡ Err (record { place = place; fault = fault })
+wrong_together rest place types fault at count wrong same =
+    let found : first_fault (codes "copy" ∷ []) rest ≡ Some (record { place = place; fault = fault }) =
+    same ∙ ap (option_map (λ fault. record { place = length (codes "copy" ∷ rest); fault = fault })) (ap columns_fault (sym count) ∙ wrong) ∙ ap (λ n. Some (record { place = n; fault = fault })) (sym at) in
+    rw found refl

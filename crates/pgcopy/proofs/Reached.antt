@@ -5,7 +5,7 @@ use Rattle.std.specs.Io.KnownBytes.{Appends, Consumes, IsAtEnd, Keeps, append_kn
 use Rattle.pgw_wire.specs.Outside.{SourceState, SinkState, left, gained, Took, WroteFront}
 use Rattle.pgw_wire.proofs.Taking.{ended}
 use Rattle.pgw_tree.specs.declared.fault.CopyFault.{CopyFault}
-use Rattle.pgw_tree.specs.Tree.{Shape}
+use Rattle.pgw_meta.specs.Shape.{Shape}
 use Rattle.pgw_tree.specs.Limits.{Limits}
 use Rattle.pgw_tree.specs.Causes.{Form, IsCopied, fault_says, in_header, in_row, in_end}
 use Rattle.pgcopy.specs.declared.report.Outcome.TheVariants.{Copied, Fault}

@@ -8,8 +8,7 @@ use Rattle.std.specs.List.{filter_map, list_all}
 use Rattle.std.specs.Option.{is_some, is_none, option_or}
 use Rattle.std.specs.Result.{result_err}
 use Rattle.std.specs.Str.Parse.{digits_value}
-use Rattle.pgw_tree.specs.Tree.{Shape, shape}
-use Rattle.pgw_tree.specs.declared.types.FirstType.{FirstType}
+use Rattle.pgw_meta.specs.Shape.{Shape}
 use Rattle.pgcopy.specs.declared.words.WordFault.TheVariants.{NotYet}
 use Rattle.pgcopy.specs.declared.words.WordsRead.{WordsRead}
 use Rattle.pgcopy.specs.Words.{type_of, in_front, behind, is_option, number_of, digits_in, number_fault, option_fault, word_fault}
@@ -104,9 +103,9 @@ is_some_map f None = refl
 is_some_map f (Some x) = refl
 
 -- the type that a word names
-pub type_named : (word : List ℕ) (r : Option FirstType) → option_map shape r ≡ type_of word → is_some r ≡ true → (t : Shape) × (type_of word ≡ Some t)
-type_named word (Some t) e h = (shape t, sym e)
-type_named word None e h = cc
+pub type_named : {A : Type 0} (form : A → Shape) (word : List ℕ) (r : Option A) → option_map form r ≡ type_of word → is_some r ≡ true → (t : Shape) × (type_of word ≡ Some t)
+type_named form word (Some t) e h = (form t, sym e)
+type_named form word None e h = cc
 
 -- what reading the option `front` gives, where the words before it held this number of it
 record IsTaken (front : List ℕ) (most n : ℕ) (word : List ℕ) (before : List (List ℕ)) : Type 0 where

@@ -1,5 +1,5 @@
 -- The type that a word names, with and without a `?` at its end.
-use Rattle.std.proofs.Common.{◌≡◌, ◌≢◌, ℕ, ◌<◌, ◌+◌, ◌-◌, List, [], ◌∷◌, ◌++◌, length, take, codes, Option, None, Some, option_map, Bor, Bool, true, false, refl, sym, ap, ◌∙◌, if◌then◌else◌}
+use Rattle.std.proofs.Common.{◌≡◌, ◌≢◌, ℕ, ◌<◌, ◌≤◌, ◌+◌, ◌-◌, lit≤, subst, List, [], ◌∷◌, ◌++◌, length, take, codes, Option, None, Some, option_map, Bor, Bool, true, false, refl, sym, ap, ◌∙◌, if◌then◌else◌}
 use Rattle.std.proofs.lemmas.Slice.Eq.{bytes_eq-Decides}
 use Rattle.std.proofs.lemmas.Bool.{false_from_ne_true}
 use Rattle.std.proofs.lemmas.Str.Pattern.{strip_suffix_char}
@@ -7,7 +7,10 @@ use Rattle.std.specs.Bool.{⊤}
 use Rattle.std.specs.Option.{MatchOption, is_some, unwrap_or}
 use Rattle.std.specs.Str.{bytes_eq}
 use Rattle.std.specs.Str.Pattern.{FindsCharSuffix}
-use Rattle.pgw_tree.specs.Tree.{nullable}
+use Rattle.std.specs.List.{AllByRecursion, filter_map}
+use Rattle.pgw_meta.specs.Shape.{Scalar, bool, char, int2, int4, int8, oid, text, bytea, uuid, money, pg_lsn, macaddr, macaddr8, Shape, scalar, nullable}
+use Rattle.pgw_meta.specs.Schema.{IsValidColumn, IsValidSchema}
+use Rattle.pgw_cell.specs.Built.{is_built, IsBuilt}
 use Rattle.pgcopy.specs.Words.{type_names, look_up, in_front, type_of}
 
 -- a word is what stands in front of its end, and the end
@@ -71,6 +74,62 @@ nothing_named name [] h = refl
 nothing_named name (entry ∷ entries) h = rw (differs name entry.0 h.0) (nothing_named name entries h.1)
 
 -- a name that no type has
-pub no_type : (marked : Option (Bor (List ℕ))) (name : List ℕ) → StandsNowhere name type_names → (if is_some marked then option_map nullable (look_up name type_names) else look_up name type_names) ≡ None
-no_type None name h = nothing_named name type_names h
-no_type (Some x) name h = rw (nothing_named name type_names h) refl
+pub no_type : (name : List ℕ) → StandsNowhere name type_names → look_up name type_names ≡ None
+no_type name h = nothing_named name type_names h
+
+-- The type of a word, with or without a `?`, is that of its name, as it is or nullable.
+pub type_marked : {A : Type 0} (form : A → Shape) (marked : Option (Bor (List ℕ))) (named : A) (r : Option Shape) → r ≡ Some (form named)
+    → Some (if is_some marked then nullable (form named) else form named) ≡ (if is_some marked then option_map nullable r else r)
+type_marked form None named r is = sym is
+type_marked form (Some x) named r is = rw is refl
+
+pub nothing_marked : (marked : Option (Bor (List ℕ))) (r : Option Shape) → r ≡ None → None ≡ (if is_some marked then option_map nullable r else r)
+nothing_marked None r is = sym is
+nothing_marked (Some x) r is = rw is refl
+
+-- What holds of each line of a table, holds of what is found in it.
+found_has : {A : Type 0} (P : A → Type 0) (name : List ℕ) (entries : List (List ℕ × A)) (x : A) → AllByRecursion (λ e. P e.1) entries → look_up name entries ≡ Some x → P x
+found_has P name [] x all e = absurd (cc)
+found_has P name (entry ∷ entries) x all e = by (bytes_eq name entry.0) refl (found_has P name entries x all.1)
+  where
+    by : (b : Bool) → bytes_eq name entry.0 ≡ b → (look_up name entries ≡ Some x → P x) → P x
+    by true is more = let same : entry.1 ≡ x = (let k = rw is at e in cc) in subst P same all.0
+    by false is more = more (rw is at e)
+
+-- It may be a column of a schema, and its values are told of.
+pub record IsKnown (t : Shape) : Type 0 where
+  pub valid : IsValidColumn t
+  pub built : IsBuilt t
+
+scalar_known : (s : Scalar) → is_built s ≡ true → IsKnown (scalar s) × IsKnown (nullable (scalar s))
+scalar_known s line = (
+  record { valid = record { shallow = lit≤ tt; formed = tt }; built = line },
+  record { valid = record { shallow = lit≤ tt; formed = (refl, tt) }; built = line },
+)
+
+pub known : (word : List ℕ) (t : Shape) → type_of word ≡ Some t → IsKnown t
+known word t e = by (in_front (codes "?") word) refl
+  where
+    all : AllByRecursion (λ e. IsKnown e.1 × IsKnown (nullable e.1)) type_names
+    all = (scalar_known bool refl, (scalar_known char refl, (scalar_known int2 refl, (scalar_known int4 refl, (scalar_known int8 refl, (scalar_known oid refl, (scalar_known text refl, (scalar_known bytea refl, (scalar_known uuid refl, (scalar_known money refl, (scalar_known pg_lsn refl, (scalar_known macaddr refl, (scalar_known macaddr8 refl, tt)))))))))))))
+
+    marked : (r : Option Shape) → ((s : Shape) → r ≡ Some s → IsKnown s × IsKnown (nullable s)) → option_map nullable r ≡ Some t → IsKnown t
+    marked None all e = absurd (cc)
+    marked (Some s) all e = let same : nullable s ≡ t = cc in subst IsKnown same (all s refl).1
+
+    by : (r : Option (List ℕ)) → in_front (codes "?") word ≡ r → IsKnown t
+    by None is = (found_has (λ t. IsKnown t × IsKnown (nullable t)) word type_names t all (rw is at e)).0
+    by (Some name) is = marked (look_up name type_names) (λ s. found_has (λ t. IsKnown t × IsKnown (nullable t)) name type_names s all) (rw is at e)
+
+-- each of the types that words name
+pub all_known : (words : List (List ℕ)) → AllByRecursion IsValidColumn (filter_map type_of words) × AllByRecursion IsBuilt (filter_map type_of words)
+all_known [] = (tt, tt)
+all_known (word ∷ words) = by (type_of word) refl (all_known words)
+  where
+    by : (r : Option Shape) → type_of word ≡ r → AllByRecursion IsValidColumn (filter_map type_of words) × AllByRecursion IsBuilt (filter_map type_of words)
+        → AllByRecursion IsValidColumn (filter_map type_of (word ∷ words)) × AllByRecursion IsBuilt (filter_map type_of (word ∷ words))
+    by None is more = rw is more
+    by (Some t) is more = let one = known word t is in rw is ((one.valid, more.0), (one.built, more.1))
+
+pub words_valid : (words : List (List ℕ)) → 1 ≤ length (filter_map type_of words) → length (filter_map type_of words) ≤ 32767 → IsValidSchema (filter_map type_of words)
+words_valid words some few = record { some = some; few = few; each = (all_known words).0 }

@@ -1,20 +1,21 @@
 -- What some command lines ask for, computed from the definitions.
 use Rattle.std.proofs.Common.{◌≡◌, ℕ, List, [], ◌∷◌, ◌++◌, codes, Some, None, Result, Ok, Err, refl, ap, arith}
-use Rattle.pgw_tree.specs.Tree.{int4, text, nullable}
+use Rattle.pgw_meta.specs.Shape.{scalar, int4, text, macaddr, macaddr8, nullable}
 use Rattle.pgw_tree.specs.Limits.{default_limits}
 use Rattle.pgcopy.specs.declared.words.WordFault.{WordFault}
 use Rattle.pgcopy.specs.declared.words.WordFault.TheVariants.{NoCommand, UnknownCommand, BadNumber, Repeated, NoTypes, NotYet}
 use Rattle.pgcopy.specs.Words.{type_of, PlanData, IsPlan, HasNoPlan, PlacedFault, IsFirstFault, word_fault, fault_between, plan_of_texts}
 use Rattle.pgcopy.proofs.Plans.{plan_is_found, fault_no_plan, found_is_first}
 
-named : (type_of (codes "int4") ≡ Some int4) × (type_of (codes "text?") ≡ Some (nullable text))
-named = (refl, refl)
+named : (type_of (codes "int4") ≡ Some (scalar int4)) × (type_of (codes "text?") ≡ Some (nullable (scalar text)))
+    × (type_of (codes "macaddr8") ≡ Some (scalar macaddr8)) × (type_of (codes "macaddr?") ≡ Some (nullable (scalar macaddr)))
+named = (refl, refl, refl, refl)
 
 named_nothing : (type_of [] ≡ None) × (type_of (codes "?") ≡ None) × (type_of (codes "int4??") ≡ None) × (type_of (codes "?int4") ≡ None) × (type_of (codes "int4 ") ≡ None)
 named_nothing = (refl, refl, refl, refl, refl)
 
 -- words without options
-types_alone : IsPlan (codes "copy" ∷ codes "int4" ∷ codes "text?" ∷ []) (record { limits = default_limits; columns = int4 ∷ nullable text ∷ [] })
+types_alone : IsPlan (codes "copy" ∷ codes "int4" ∷ codes "text?" ∷ []) (record { limits = default_limits; columns = scalar int4 ∷ nullable (scalar text) ∷ [] })
 types_alone = record {
   options = [];
   types = codes "int4" ∷ codes "text?" ∷ [];
@@ -27,7 +28,7 @@ types_alone = record {
   few = omega arith;
 }
 
-both_limits : IsPlan (codes "copy" ∷ codes "field=02" ∷ codes "rows=15" ∷ codes "text" ∷ []) (record { limits = record { rows_max = 15; field_max = 2 }; columns = text ∷ [] })
+both_limits : IsPlan (codes "copy" ∷ codes "field=02" ∷ codes "rows=15" ∷ codes "text" ∷ []) (record { limits = record { rows_max = 15; field_max = 2 }; columns = scalar text ∷ [] })
 both_limits = record {
   options = codes "field=02" ∷ codes "rows=15" ∷ [];
   types = codes "text" ∷ [];
@@ -40,7 +41,7 @@ both_limits = record {
   few = omega arith;
 }
 
-most_rows : plan_of_texts (codes "copy" ∷ codes "rows=18446744073709551615" ∷ codes "int4" ∷ []) ≡ Ok (record { limits = default_limits; columns = int4 ∷ [] })
+most_rows : plan_of_texts (codes "copy" ∷ codes "rows=18446744073709551615" ∷ codes "int4" ∷ []) ≡ Ok (record { limits = default_limits; columns = scalar int4 ∷ [] })
 most_rows = refl
 
 no_words : HasNoPlan []
@@ -50,7 +51,7 @@ other_command : HasNoPlan (codes "cpy" ∷ codes "int4" ∷ [])
 other_command plan p = let no : codes "cpy" ∷ codes "int4" ∷ [] ≡ codes "copy" ∷ (p.options ++ p.types) = p.is in cc
 
 -- the words state another limit
-other_limit : IsPlan (codes "copy" ∷ codes "rows=15" ∷ codes "text" ∷ []) (record { limits = record { rows_max = 16; field_max = 2147483647 }; columns = text ∷ [] }) → ⊥
+other_limit : IsPlan (codes "copy" ∷ codes "rows=15" ∷ codes "text" ∷ []) (record { limits = record { rows_max = 16; field_max = 2147483647 }; columns = scalar text ∷ [] }) → ⊥
 other_limit p = let no : 15 ≡ 16 = ap rows_of (plan_is_found _ _ p) in omega (arith, no)
   where
     rows_of : Result PlanData PlacedFault → ℕ

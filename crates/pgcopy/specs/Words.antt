@@ -6,14 +6,19 @@ use Rattle.std.specs.Option.{option_or, option_and_then, option_map_or}
 use Rattle.std.specs.Result.{result_err}
 use Rattle.std.specs.Str.{bytes_eq, all_ascii_digits}
 use Rattle.std.specs.Str.Parse.{digits_value}
-use Rattle.pgw_tree.specs.Tree.{Shape, int4, text, nullable}
+use Rattle.pgw_meta.specs.Shape.{Shape, scalar, nullable, bool, char, int2, int4, int8, oid, text, bytea, uuid, money, pg_lsn, macaddr, macaddr8}
 use Rattle.pgw_tree.specs.Limits.{Limits, default_limits}
 use Rattle.pgcopy.specs.declared.words.WordFault.{WordFault}
 use Rattle.pgcopy.specs.declared.words.WordFault.TheVariants.{NoCommand, UnknownCommand, BadNumber, Repeated, NoTypes, Schema, NotYet}
 
 -- the types that have a name
 abbrev pub type_names : List (List ℕ × Shape)
-type_names = (codes "int4", int4) ∷ (codes "text", text) ∷ []
+type_names =
+    (codes "bool", scalar bool) ∷ (codes "char", scalar char) ∷ (codes "int2", scalar int2)
+    ∷ (codes "int4", scalar int4) ∷ (codes "int8", scalar int8) ∷ (codes "oid", scalar oid)
+    ∷ (codes "text", scalar text) ∷ (codes "bytea", scalar bytea) ∷ (codes "uuid", scalar uuid)
+    ∷ (codes "money", scalar money) ∷ (codes "pg_lsn", scalar pg_lsn) ∷ (codes "macaddr", scalar macaddr)
+    ∷ (codes "macaddr8", scalar macaddr8) ∷ []
 
 -- what stands beside a name in a table
 abbrev pub look_up : {A : Type 0} → List ℕ → List (List ℕ × A) → Option A

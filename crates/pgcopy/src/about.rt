@@ -10,8 +10,21 @@ Reads a stream from standard input as PostgreSQL sends it for
 COPY .. TO STDOUT (FORMAT binary), and writes to standard output the canonical
 stream of the same rows. A line of report goes to standard error.
 
-Each TYPE is the type of one column: int4, int4?, text or text?. A field of a
-column with a ? may be null.
+Each TYPE is the type of one column, with a ? behind it where a field may be
+null:
+  bool      true or false
+  char      one byte, PostgreSQL's \"char\"
+  int2      a signed number of 16 bits
+  int4      a signed number of 32 bits
+  int8      a signed number of 64 bits
+  oid       an object identifier, an unsigned number of 32 bits
+  text      text of UTF-8
+  bytea     any bytes
+  uuid      an identifier of 16 bytes
+  money     an amount, a signed number of 64 bits
+  pg_lsn    a place in the write-ahead log, an unsigned number of 64 bits
+  macaddr   a hardware address of 6 bytes
+  macaddr8  a hardware address of 8 bytes
 
 options, in front of the types, each at most once:
   rows=N   refuse a stream of more than N rows, N up to 18446744073709551615

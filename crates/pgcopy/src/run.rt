@@ -7,7 +7,8 @@ ghost use Rattle.pgcopy.specs.Report.{line_of, fault_status, status_of, WroteUnl
 
 use crate::report::{Outcome, Status, report};
 use crate::words::{WordError, read_words};
-use pgw_tree::{CopyFault, recopy_first};
+use pgw_meta::Dummy;
+use pgw_tree::{CopyFault, recopy};
 use pgw_wire::{Sink, Source};
 use std::alloc::Global;
 
@@ -48,8 +49,8 @@ fn execute<S: Source, K: Sink>(
     ensures gained { Gains (K.state sink.old) (K.state sink.new) }
 {
     match read_words(alloc, words) {
-        Ok(plan) => match recopy_first(alloc, plan.columns.as_slice(), source, sink, plan.limits) {
-            Ok(rows) => Outcome::Copied(rows),
+        Ok(plan) => match recopy(alloc, &plan.schema, &mut Dummy, source, sink, plan.limits) {
+            Ok(copied) => Outcome::Copied(copied.rows),
             Err(fault) => Outcome::Fault(fault),
         },
         Err(WordError::Fault { place, fault }) => Outcome::BadWord { place, fault },

@@ -80,6 +80,30 @@ const FIVE: &[u8] = b"PGCOPY\n\xff\r\n\0\0\0\0\0\0\0\0\0\0\x01\0\0\0\x05\0\0\0\x
 // a text that is not UTF-8
 const WRONG_TEXT: &[u8] = b"PGCOPY\n\xff\r\n\0\0\0\0\0\0\0\0\0\0\x01\0\0\0\x02\xc3\x28";
 
+// a bool, which is true
+const BOOL: &[u8] = b"PGCOPY\n\xff\r\n\0\0\0\0\0\0\0\0\0\0\x01\0\0\0\x01\x01\xff\xff";
+
+// the same, with another byte for true and two bytes behind it
+const BOOL_RESPELLED: &[u8] =
+    b"PGCOPY\n\xff\r\n\0\0\0\0\0\0\0\0\0\0\x01\0\0\0\x03\x02\xaa\xbb\xff\xff";
+
+// a field of no byte
+const NO_BYTE: &[u8] = b"PGCOPY\n\xff\r\n\0\0\0\0\0\0\0\0\0\0\x01\0\0\0\0";
+
+// a field of each type, the last of them null
+const EACH_TYPE: &[u8] = b"PGCOPY\n\xff\r\n\0\0\0\0\0\0\0\0\0\
+    \0\x0d\0\0\0\x01\x01\0\0\0\x01A\0\0\0\x02\xff\xff\0\0\0\x04\0\0\0*\0\0\0\x08\0\0\0\0\0\0\0\x01\0\
+    \0\0\x04\0\0a\xa8\0\0\0\x04Sean\0\0\0\x02\0\xff\0\0\0\x10\xff\xff\xff\xff\xff\xff\xff\xffabcdef1\
+    2\0\0\0\x08\xff\xff\xff\xff\xff\xff\xff\x85\0\0\0\x08RT\0\xfb\xc6\x16\x17\xff\0\0\0\x06RT\0\xfb\
+    \xc6\x16\xff\xff\xff\xff\xff\xff";
+
+// the same row, with bytes behind the first, second and sixth value, and a null of the length -2
+const EACH_RESPELLED: &[u8] = b"PGCOPY\n\xff\r\n\0\0\0\0\0\0\0\0\0\
+    \0\x0d\0\0\0\x03\x02\xaa\xbb\0\0\0\x02AB\0\0\0\x02\xff\xff\0\0\0\x04\0\0\0*\0\0\0\x08\0\0\0\0\0\
+    \0\0\x01\0\0\0\x05\0\0a\xa8\xff\0\0\0\x04Sean\0\0\0\x02\0\xff\0\0\0\x10\xff\xff\xff\xff\xff\xff\
+    \xff\xffabcdef12\0\0\0\x08\xff\xff\xff\xff\xff\xff\xff\x85\0\0\0\x08RT\0\xfb\xc6\x16\x17\xff\0\0\
+    \0\x06RT\0\xfb\xc6\x16\xff\xff\xff\xfe\xff\xff";
+
 /// The number of a call that does not come.
 const NEVER: u64 = u64::MAX;
 
@@ -136,7 +160,7 @@ fn assert_run(rt: &impl Abort, alloc: Global, wanted: Run<'_>, cuts: &[usize]) {
 }
 
 // what runs come to
-const RUNS: [Run<'static>; 31] = [
+const RUNS: [Run<'static>; 34] = [
     // what is copied
     Run {
         words: &["copy", "rows=1", "int4"],
@@ -177,6 +201,41 @@ const RUNS: [Run<'static>; 31] = [
         line: b"rows 1\n",
         output: NULL_FIRST,
         taken: 35,
+    },
+    Run {
+        words: &["copy", "bool"],
+        input: BOOL_RESPELLED,
+        read_fail: NEVER,
+        write_fail: NEVER,
+        status: Status::Copied,
+        line: b"rows 1\n",
+        output: BOOL,
+        taken: 30,
+    },
+    Run {
+        words: &[
+            "copy",
+            "bool",
+            "char",
+            "int2",
+            "int4",
+            "int8",
+            "oid?",
+            "text",
+            "bytea",
+            "uuid",
+            "money",
+            "pg_lsn",
+            "macaddr",
+            "macaddr8?",
+        ],
+        input: EACH_RESPELLED,
+        read_fail: NEVER,
+        write_fail: NEVER,
+        status: Status::Copied,
+        line: b"rows 1\n",
+        output: EACH_TYPE,
+        taken: 143,
     },
     Run {
         words: &["copy", "rows=0", "int4"],
@@ -291,6 +350,16 @@ const RUNS: [Run<'static>; 31] = [
         taken: 41,
     },
     // what is no stream of the columns, or exceeds a limit
+    Run {
+        words: &["copy", "bool?"],
+        input: NO_BYTE,
+        read_fail: NEVER,
+        write_fail: NEVER,
+        status: Status::Refused,
+        line: b"row 0 column 0: size\n",
+        output: HEADER,
+        taken: 25,
+    },
     Run {
         words: &["copy", "int4"],
         input: FLAGS,

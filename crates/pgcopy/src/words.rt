@@ -1,12 +1,16 @@
-ghost use Rattle.std.specs.Prelude.{◌≡◌, ◌↔◌, ℕ, ◌≤◌, ◌<◌, List, [], ◌∷◌, ◌++◌, length, map, string_bytes, codes, Option, Some, None, option_map, Ok, Err, true, IfOk, IfErr, IfSome, IsOk, MatchResult};
+ghost use Rattle.std.specs.Prelude.{◌≡◌, ◌↔◌, if◌then◌else◌, ℕ, ◌≤◌, ◌<◌, List, [], ◌∷◌, ◌++◌, length, map, string_bytes, codes, Option, Some, None, option_map, Ok, Err, true, IfOk, IfErr, IfSome, IsOk, MatchResult};
 ghost use Rattle.std.specs.List.{filter_map, list_all};
 ghost use Rattle.std.specs.Option.{unwrap_or};
-ghost use Rattle.pgw_tree.specs.Tree.{shape, shapes};
+ghost use Rattle.pgw_meta.specs.Shape.{nullable};
+ghost use Rattle.pgw_meta.specs.Types.{shape, column_shapes, types_of};
+ghost use Rattle.pgw_meta.specs.Schema.{IsValidSchema};
+ghost use Rattle.pgw_tree.specs.ColumnTypes.{AreBuilt};
 ghost use Rattle.pgw_tree.specs.Limits.{default_limits};
-ghost use Rattle.pgcopy.specs.Words.{type_of, behind, is_option, number_of, option_fault, word_fault, first_fault, PlanData, IsPlan, HasNoPlan, PlacedFault, IsFirstFault, plan_of};
+ghost use Rattle.pgcopy.specs.Words.{type_names, look_up, type_of, behind, is_option, number_of, option_fault, word_fault, first_fault, PlanData, IsPlan, HasNoPlan, PlacedFault, IsFirstFault, plan_of};
 ghost use Rattle.pgcopy.specs.WordsRead.{AreRead};
 
-use pgw_tree::{FIELD_MAX, FirstList, FirstType, Limits};
+use pgw_meta::{PgType, Schema, TypeList};
+use pgw_tree::{FIELD_MAX, Limits};
 use pgw_wire::NoMemory;
 use std::alloc::Global;
 use thiserror::Error;
@@ -70,7 +74,7 @@ pub struct Plan {
     /// How much is copied at most.
     pub limits: Limits,
     /// The types of the columns.
-    pub columns: FirstList,
+    pub schema: Schema,
 }
 
 /// What was read of the words so far: the numbers of the options, and how many types there are.
@@ -81,17 +85,46 @@ struct WordsRead {
     types: usize,
 }
 
-/// The column type that a word names. With a `?` at its end the column may be null.
-fn type_of(word: &str) -> Option<FirstType>
-    ensures { option_map shape result ≡ type_of word.now }
+/// The type of a name.
+fn named_type(name: &str) -> Option<PgType>
+    ensures { option_map shape result ≡ look_up name.now type_names }
+{
+    match name {
+        "bool" => Some(PgType::Bool),
+        "char" => Some(PgType::Char),
+        "int2" => Some(PgType::Int2),
+        "int4" => Some(PgType::Int4),
+        "int8" => Some(PgType::Int8),
+        "oid" => Some(PgType::Oid),
+        "text" => Some(PgType::Text),
+        "bytea" => Some(PgType::Bytea),
+        "uuid" => Some(PgType::Uuid),
+        "money" => Some(PgType::Money),
+        "pg_lsn" => Some(PgType::Lsn),
+        "macaddr" => Some(PgType::Mac),
+        "macaddr8" => Some(PgType::Mac8),
+        _ => None,
+    }
+}
+
+/// The type of the name in a word, and whether a `?` at its end says that the column may be null.
+fn type_of(word: &str) -> Option<(PgType, bool)>
+    ensures { option_map (λ t. if t.1 then nullable (shape t.0) else shape t.0) result ≡ type_of word.now }
 {
     let marked = word.strip_suffix('?');
-    let (plain, nullable) = match marked.unwrap_or(word) {
-        "int4" => (FirstType::Int4, FirstType::Int4Null),
-        "text" => (FirstType::Text, FirstType::TextNull),
-        _ => return None,
-    };
-    Some(if marked.is_some() { nullable } else { plain })
+    let named = named_type(marked.unwrap_or(word))?;
+    Some((named, marked.is_some()))
+}
+
+/// The type, or it or null.
+fn column_of(alloc: Global, named: PgType, may_be_null: bool) -> Result<PgType, NoMemory>
+    ensures { IfOk result (λ column. shape column ≡ (if may_be_null then nullable (shape named) else shape named)) }
+{
+    if may_be_null {
+        Ok(PgType::Nullable(Box::new(alloc, named)?))
+    } else {
+        Ok(named)
+    }
 }
 
 /// What stands in a word behind a text, where it begins with it.
@@ -225,16 +258,27 @@ fn read_all(words: &[String]) -> Result<WordsRead, (usize, WordFault)>
 }
 
 /// The types that the words name, in their order.
-fn known_types(alloc: Global, words: &[String]) -> Result<FirstList, NoMemory>
-    ensures { IfOk result (λ columns. shapes columns ≡ filter_map type_of (map string_bytes words.now)) }
+fn known_types(alloc: Global, words: &[String]) -> Result<TypeList, NoMemory>
+    ensures { IfOk result (λ columns. column_shapes (types_of columns) ≡ filter_map type_of (map string_bytes words.now)) }
 {
-    let mut columns = FirstList::new(alloc);
+    let mut columns = TypeList::new(alloc);
     for word in words {
-        if let Some(column) = type_of(word.as_str()) {
-            columns.push(column)?;
+        if let Some((named, may_be_null)) = type_of(word.as_str()) {
+            columns.push(column_of(alloc, named, may_be_null)?)?;
         }
     }
     Ok(columns)
+}
+
+/// The schema of the types that the words name, which are 1 to 32767.
+fn known_schema(alloc: Global, words: &[String]) -> Result<Schema, NoMemory>
+    requires some { 1 ≤ length (filter_map type_of (map string_bytes words.now)) }
+    requires few { length (filter_map type_of (map string_bytes words.now)) ≤ 32767 }
+    ensures types { IfOk result (λ schema. column_shapes schema ≡ filter_map type_of (map string_bytes words.now)) }
+    ensures built { IfOk result (λ schema. AreBuilt (column_shapes schema)) }
+{
+    let columns = known_types(alloc, words)?;
+    Ok(Schema::new(alloc, columns).unwrap())
 }
 
 /// The limits that the options set, and the defaults of the others.
@@ -258,11 +302,10 @@ fn limits_from(seen: WordsRead) -> Limits
 #[tactic(auto, using(crate::proofs::Plans::found_is_plan, crate::proofs::Plans::found_is_first))]
 pub fn read_words(alloc: Global, words: &[String]) -> Result<Plan, WordError>
     ensures plan { IfOk result (λ plan. plan_of words.now
-        ≡ Ok (record { limits = plan.limits; columns = shapes plan.columns })) }
+        ≡ Ok (record { limits = plan.limits; columns = column_shapes plan.schema })) }
     ensures is_plan { IfOk result (λ plan. IsPlan (map string_bytes words.now)
-        (record { limits = plan.limits; columns = shapes plan.columns })) }
-    ensures some { IfOk result (λ plan. 1 ≤ length plan.columns) }
-    ensures few { IfOk result (λ plan. length plan.columns ≤ 32767) }
+        (record { limits = plan.limits; columns = column_shapes plan.schema })) }
+    ensures built { IfOk result (λ plan. AreBuilt (column_shapes plan.schema)) }
     ensures fault { (place : _) (fault : _) → result ≡ Err (WordError.Fault place fault)
         → plan_of words.now ≡ Err (record { place = place; fault = fault }) }
     ensures no_plan { (place : _) (fault : _) → result ≡ Err (WordError.Fault place fault)
@@ -282,7 +325,7 @@ pub fn read_words(alloc: Global, words: &[String]) -> Result<Plan, WordError>
         Ok(seen) => seen,
         Err((place, fault)) => return Err(WordError::Fault { place, fault }),
     };
-    let columns = known_types(alloc, words)?;
+    let schema = known_schema(alloc, words)?;
     let limits = limits_from(seen);
-    Ok(Plan { limits, columns })
+    Ok(Plan { limits, schema })
 }

@@ -10,12 +10,21 @@ fn read(rt: &impl Abort, alloc: Global, words: &[&str]) -> Result<(u64, u32, usi
     Ok((
         plan.limits.rows_max(),
         plan.limits.field_max(),
-        plan.columns.len(),
+        plan.schema.columns().len(),
     ))
 }
 
 // words, the limits that they set, and how many columns they have
-const LIMITS: [(&[&str], u64, u32, usize); 9] = [
+const LIMITS: [(&[&str], u64, u32, usize); 10] = [
+    (
+        &[
+            "copy", "bool", "char?", "int2", "int4?", "int8", "oid", "text", "bytea?", "uuid",
+            "money", "pg_lsn", "macaddr", "macaddr8",
+        ],
+        18446744073709551615,
+        2147483647,
+        13,
+    ),
     (&["copy", "int4"], 18446744073709551615, 2147483647, 1),
     (&["copy", "rows=0", "int4", "text"], 0, 2147483647, 2),
     (&["copy", "rows=5", "field=2", "text"], 5, 2, 1),

@@ -10,7 +10,8 @@ use Rattle.pgw_wire.proofs.Taking.{goes_on_then}
 use Rattle.pgw_copy.specs.Format.{IsHeader, IsRow, canonical_header}
 use Rattle.pgw_copy.specs.Reader.{bad_header as fixed_bad_header, bad_flags as fixed_bad_flags, truncated as cut_off, read_fault as cut_unread, HeaderError, refused_header, cut_header}
 use Rattle.pgw_copy.specs.declared.fault.CopyReadError.{CopyReadError}
-use Rattle.pgw_tree.specs.Tree.{Shape, Value}
+use Rattle.pgw_meta.specs.Shape.{Shape}
+use Rattle.pgw_cell.specs.Value.{Value}
 use Rattle.pgw_tree.specs.Spells.{SpellsRow}
 use Rattle.pgw_tree.specs.Canonical.{FitsRow, canonical_row, canonical_front}
 use Rattle.pgw_tree.specs.Stream.{AreRows, IsFront, IsWithin}

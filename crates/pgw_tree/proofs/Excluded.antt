@@ -8,9 +8,11 @@ use Rattle.pgw_copy.specs.Format.{magic, IsFixedHeader, IsHeader, IsCutHeader, I
 use Rattle.pgw_copy.specs.Reader.{IsBadHeader, HasHighFlags, HasNegativeExtension, IsBadCount}
 use Rattle.pgw_tree.specs.declared.fault.CopyFault.{CopyFault}
 use Rattle.pgw_tree.specs.declared.fault.CopyFault.TheVariants.{Truncated, ReadFault, WriteFault, NoMemory}
-use Rattle.pgw_tree.specs.Tree.{Shape, Value}
-use Rattle.pgw_tree.specs.Spells.{Spells, SpellsRow}
-use Rattle.pgw_tree.specs.Canonical.{Fits, FitsRow}
+use Rattle.pgw_meta.specs.Shape.{Shape}
+use Rattle.pgw_cell.specs.Value.{Value}
+use Rattle.pgw_cell.specs.Cells.{Spells, Fits}
+use Rattle.pgw_tree.specs.Spells.{SpellsRow}
+use Rattle.pgw_tree.specs.Canonical.{FitsRow}
 use Rattle.pgw_tree.specs.Columns.{BreaksAt, IsLongAt}
 use Rattle.pgw_tree.specs.Stream.{AreRows, IsFront, IsValidStream}
 use Rattle.pgw_tree.specs.Limits.{Limits}
@@ -19,7 +21,7 @@ use Rattle.pgw_wire.proofs.Lists.{same_front, same_rest}
 use Rattle.pgw_wire.proofs.Numbers.{same_number_2, same_number_4}
 use Rattle.pgw_copy.proofs.Headers.{IsApart, no_fixed_header, length-fixed, same_fixed, header_splits}
 use Rattle.pgw_tree.proofs.RowFields.{enough_cells, fields_once}
-use Rattle.pgw_tree.proofs.Reading.{value_once, breaks_or_spells}
+use Rattle.pgw_cell.proofs.Reading.{value_once, breaks_or_spells}
 use Rattle.pgw_tree.proofs.Unique.{count_is_not_end, header_once, cells_once}
 
 -- the faults that may come of any bytes

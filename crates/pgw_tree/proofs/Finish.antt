@@ -6,9 +6,11 @@ use Rattle.pgw_wire.specs.Outside.{SourceState, SinkState, left, settled, HasFai
 use Rattle.pgw_wire.proofs.Taking.{took_weaker, took_from, ended}
 use Rattle.pgw_wire.proofs.Adding.{wrote_gains}
 use Rattle.pgw_copy.specs.Format.{trailer}
+use Rattle.pgw_tree.specs.declared.stream.Copied.{Copied}
 use Rattle.pgw_tree.specs.declared.fault.CopyFault.{CopyFault}
 use Rattle.pgw_tree.specs.declared.fault.CopyFault.TheVariants.{ReadFault, WriteFault, NoMemory}
-use Rattle.pgw_tree.specs.Tree.{Shape, Value}
+use Rattle.pgw_meta.specs.Shape.{Shape}
+use Rattle.pgw_cell.specs.Value.{Value}
 use Rattle.pgw_tree.specs.Stream.{IsStream, IsValidStream, IsWithin}
 use Rattle.pgw_tree.specs.Limits.{Limits}
 use Rattle.pgw_tree.specs.Causes.{Form, IsCopied, fault_says, in_header, in_row, in_end}
@@ -24,39 +26,39 @@ copied_rows limits ts form n Written taken rows stream within many written = rec
 }
 
 -- what a copy takes, and what it writes
-abbrev pub Copied : {S K : Type 0} → Limits → List Shape → Form → SourceState S → SourceState S → SinkState K → SinkState K → Result ℕ CopyFault → Type 0
-Copied limits ts form a b before now r = Copies a b r (λ n. IsCopied limits ts form n (Settled before now)) (λ fault. fault_says limits ts form fault (Wrote before now))
+abbrev pub Answer : {S K : Type 0} → Limits → List Shape → Form → SourceState S → SourceState S → SinkState K → SinkState K → Result Copied CopyFault → Type 0
+Answer limits ts form a b before now r = Copies a b r (λ c. IsCopied limits ts form c.rows (Settled before now)) (λ fault. fault_says limits ts form fault (Wrote before now))
 
-pub copied_ok : {S K : Type 0} (limits : Limits) (ts : List Shape) (form : Form) (a b : SourceState S) (before now : SinkState K) (r : Result ℕ CopyFault) → Copied limits ts form a b before now r → IfOk r (λ n. Took a b (IsCopied limits ts form n (Settled before now)))
+pub copied_ok : {S K : Type 0} (limits : Limits) (ts : List Shape) (form : Form) (a b : SourceState S) (before now : SinkState K) (r : Result Copied CopyFault) → Answer limits ts form a b before now r → IfOk r (λ c. Took a b (IsCopied limits ts form c.rows (Settled before now)))
 copied_ok limits ts form a b before now (Ok n) h = h.ok n refl
 copied_ok limits ts form a b before now (Err e) h = tt
 
-pub settled_ok : {S K : Type 0} (limits : Limits) (ts : List Shape) (form : Form) (a b : SourceState S) (before now : SinkState K) (r : Result ℕ CopyFault) → Copied limits ts form a b before now r → OnOk r (settled now ≡ option_map (λ _. true) (settled before))
+pub settled_ok : {S K : Type 0} (limits : Limits) (ts : List Shape) (form : Form) (a b : SourceState S) (before now : SinkState K) (r : Result Copied CopyFault) → Answer limits ts form a b before now r → OnOk r (settled now ≡ option_map (λ _. true) (settled before))
 settled_ok limits ts form a b before now (Ok n) h = let k = (h.ok n refl).has in (k.canonical k.stream.0 k.stream.1).settles
 settled_ok limits ts form a b before now (Err e) h = tt
 
 -- A valid stream is copied, unless memory runs out or an object outside failed.
-pub complete : {S K : Type 0} (limits : Limits) (ts : List Shape) (form : Form) (a b : SourceState S) (before now : SinkState K) (r : Result ℕ CopyFault) → Copied limits ts form a b before now r → (r ≡ Err WriteFault → HasFailed before now)
+pub complete : {S K : Type 0} (limits : Limits) (ts : List Shape) (form : Form) (a b : SourceState S) (before now : SinkState K) (r : Result Copied CopyFault) → Answer limits ts form a b before now r → (r ≡ Err WriteFault → HasFailed before now)
     → HasFront (left a) (IsValidStream limits ts) → (HasFailed a b → ⊥) → (HasFailed before now → ⊥) → IsOkUnless r NoMemory
 complete limits ts form a b before now (Ok n) h write valid well_read well_written = tt
 complete limits ts form a b before now (Err e) h write valid well_read well_written =
     let t = took_from a b _ (h.err e refl) (valid.front ++ valid.rest) valid.is in
     by_fault (excluded limits ts form e (Wrote before now) t.taken t.rest valid.front valid.rest t.has (λ is. ended (left b) t.rest (h.at_end (ap Err is)) t.now_is) valid.has (sym t.left_is))
   where
-    by_fault : (e ≡ ReadFault) ⊎ (e ≡ WriteFault) ⊎ (e ≡ NoMemory) → IsOkUnless {T = ℕ} (Err e) NoMemory
+    by_fault : (e ≡ ReadFault) ⊎ (e ≡ WriteFault) ⊎ (e ≡ NoMemory) → IsOkUnless {T = Copied} (Err e) NoMemory
     by_fault (inl is) = absurd (well_read (h.has_failed (ap Err is)))
     by_fault (inr (inl is)) = absurd (well_written (write (ap Err is)))
     by_fault (inr (inr is)) = is
 
 -- What is told to begin with no valid stream is not copied.
-pub refused : {S K : Type 0} (limits : Limits) (ts : List Shape) (form : Form) (a b : SourceState S) (before now : SinkState K) (r : Result ℕ CopyFault) → Copied limits ts form a b before now r → HasNoFront (left a) (IsValidStream limits ts) → IsErr r
+pub refused : {S K : Type 0} (limits : Limits) (ts : List Shape) (form : Form) (a b : SourceState S) (before now : SinkState K) (r : Result Copied CopyFault) → Answer limits ts form a b before now r → HasNoFront (left a) (IsValidStream limits ts) → IsErr r
 refused limits ts form a b before now (Ok n) h none =
     let t = took_from a b _ (h.ok n refl) none.left none.is in
     let stream = t.has.stream in absurd (none.none t.taken t.rest t.left_is (stream.0, stream.1, stream.2))
 refused limits ts form a b before now (Err e) h none = search rules
 
 -- Whatever the answer, a front was taken.
-pub taken_of : {S K : Type 0} (limits : Limits) (ts : List Shape) (form : Form) (a b : SourceState S) (before now : SinkState K) (r : Result ℕ CopyFault) → Copied limits ts form a b before now r → Took a b (λ _. ⊤)
+pub taken_of : {S K : Type 0} (limits : Limits) (ts : List Shape) (form : Form) (a b : SourceState S) (before now : SinkState K) (r : Result Copied CopyFault) → Answer limits ts form a b before now r → Took a b (λ _. ⊤)
 taken_of limits ts form a b before now (Ok n) h = took_weaker (h.ok n refl) (λ _ _. tt)
 taken_of limits ts form a b before now (Err e) h = took_weaker (h.err e refl) (λ _ _. tt)
 
@@ -69,7 +71,7 @@ written_gained taken (inr (inr (is, in_end rows front begins within end (inl p))
 written_gained taken (inr (inr (is, in_end rows front begins within end (inr w)))) = wrote_gains w
 
 -- Whatever the answer, the sink has what it had, and what was written behind it.
-pub gained_of : {S K : Type 0} (limits : Limits) (ts : List Shape) (form : Form) (a b : SourceState S) (before now : SinkState K) (r : Result ℕ CopyFault) → Copied limits ts form a b before now r → Gains before now
+pub gained_of : {S K : Type 0} (limits : Limits) (ts : List Shape) (form : Form) (a b : SourceState S) (before now : SinkState K) (r : Result Copied CopyFault) → Answer limits ts form a b before now r → Gains before now
 gained_of limits ts form a b before now (Ok n) h =
     let k = (h.ok n refl).has in
     let w = k.canonical k.stream.0 k.stream.1 in record { bytes = form k.stream.0 ++ trailer; appends = w.appends; goes_on = w.goes_on }

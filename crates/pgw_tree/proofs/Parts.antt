@@ -1,5 +1,5 @@
 -- How the answers of calls that take a part of a stream make that of a call of the copy.
-use Rattle.std.proofs.Common.{◌≡◌, ℕ, ◌<◌, List, [], ◌++◌, length, Option, subst, None, Some, Bool, true, false, Result, Err, refl, ap, arith, inl, inr}
+use Rattle.std.proofs.Common.{◌≡◌, ℕ, ◌<◌, List, [], ◌++◌, length, Option, subst, None, Some, Bool, true, false, Result, Ok, Err, refl, ap, arith, inl, inr}
 use Rattle.std.specs.Prelude.{◌≢◌, is_some}
 use mathlib.Core.Bool.{not}
 use Rattle.std.specs.Prelude.{IfErr}
@@ -12,11 +12,12 @@ use Rattle.pgw_copy.specs.declared.fault.CopyReadError.TheVariants.{BadHeader, B
 use Rattle.pgw_copy.specs.Format.{IsCount, AreFields}
 use Rattle.pgw_copy.specs.Reader.{Reads, truncated as cut_off, read_fault as cut_unread, KeptError, cut_short, no_memory as kept_no_memory, CountError, bad_count, cut_count, AreCutFields, AreWholeFields}
 use Rattle.pgw_copy.proofs.Reading.{is_cut_row, row_of}
-use Rattle.pgw_tree.specs.declared.cells.SendFault.{SendFault}
-use Rattle.pgw_tree.specs.declared.cells.SendFault.TheVariants.{TooFew as send_too_few, BadValue as send_bad_value, TooLong as send_too_long, WriteFault as send_write_fault, NoMemory as send_no_memory}
+use Rattle.pgw_tree.specs.declared.send_fault.SendFault.{SendFault}
+use Rattle.pgw_tree.specs.declared.send_fault.SendFault.TheVariants.{TooFew as send_too_few, BadValue as send_bad_value, TooLong as send_too_long, WriteFault as send_write_fault, NoMemory as send_no_memory}
 use Rattle.pgw_tree.specs.declared.fault.CopyFault.{CopyFault}
 use Rattle.pgw_tree.specs.declared.fault.CopyFault.TheVariants.{Truncated, ReadFault, WriteFault}
-use Rattle.pgw_tree.specs.Tree.{Shape, Value}
+use Rattle.pgw_meta.specs.Shape.{Shape}
+use Rattle.pgw_cell.specs.Value.{Value}
 use Rattle.pgw_tree.specs.Canonical.{canonical_row}
 use Rattle.pgw_tree.specs.Limits.{Limits}
 use Rattle.pgw_tree.specs.ReadErrors.{fault_of}
@@ -46,6 +47,10 @@ is_failed NoMemory h = absurd (cc)
 -- what is said of an error, at the one that was answered
 pub said_at : {X E : Type 0} (r : Result X E) (e : E) (P : E → Type 0) → r ≡ Err e → IfErr r P → P e
 said_at {X = X} {E = E} r e P is h = subst (λ (s : Result X E). IfErr s P) is h
+
+pub err_weaker : {X E : Type 0} (r : Result X E) (P Q : E → Type 0) → IfErr r P → ((e : E) → P e → Q e) → IfErr r Q
+err_weaker (Ok x) P Q h w = tt
+err_weaker (Err e) P Q h w = w e h
 
 -- The reader's error is the fault of the call.
 pub reader_first : {X Y O : Type 0} {a b : SourceState O} {P1 : Y → List ℕ → Type 0} {Fault1 : CopyReadError → List ℕ → Type 0} {r : Result X CopyFault} {e : CopyReadError} (P : X → List ℕ → Type 0) (Fault : CopyFault → List ℕ → Type 0)

@@ -1,5 +1,5 @@
 -- Bytes that are canonical as they stand.
-use Rattle.std.proofs.Common.{◌≡◌, ℕ, ◌<◌, ◌≤◌, ◌^◌, List, [], ◌∷◌, ◌++◌, length, true, None, Some, refl, sym, ap, ◌∙◌, arith, append_assoc, append-nil, subst, length-append, lit<, Option, take, ◌-◌, Bor}
+use Rattle.std.proofs.Common.{◌≡◌, ℕ, ◌<◌, ◌≤◌, ◌^◌, List, [], ◌∷◌, ◌++◌, length, None, Some, refl, sym, ap, ◌∙◌, arith, append_assoc, append-nil, subst, length-append, Option, take, ◌-◌}
 use Rattle.std.specs.Prelude.{IfSome, IsSome, IsNone}
 use Rattle.std.proofs.Math.Seq.{take-append_seam, take-length}
 use Rattle.std.specs.Io.{StartsWith}
@@ -11,58 +11,23 @@ use Rattle.std.specs.Int.{to_be_bytes, w16}
 use Rattle.std.proofs.lemmas.Grind.{flat_map-append}
 use Rattle.pgw_wire.specs.Cell.{Cell, frame}
 use Rattle.pgw_copy.specs.Format.{IsField, AreFields, IsRow}
-use Rattle.pgw_tree.specs.Tree.{Shape, Value, nullable, null, is_nullable}
-use Rattle.pgw_tree.specs.Pieces.{SpellsPiece}
-use Rattle.pgw_tree.specs.Spells.{Spells, SpellsRow}
-use Rattle.pgw_tree.specs.Canonical.{FitsRow, canonical_cell, canonical_cells, canonical_row}
+use Rattle.pgw_meta.specs.Shape.{Shape}
+use Rattle.pgw_cell.specs.Value.{Value}
+use Rattle.pgw_cell.specs.Cells.{canonical_cell}
+use Rattle.pgw_cell.proofs.Reading.{spelled_has_type, size_counted}
+use Rattle.pgw_cell.specs.Plain.{IsPlainField}
+use Rattle.pgw_tree.specs.Spells.{SpellsRow}
+use Rattle.pgw_tree.specs.Canonical.{FitsRow, canonical_cells, canonical_row}
 use Rattle.pgw_tree.specs.Stream.{AreRows}
 use Rattle.pgw_tree.specs.Columns.{SpellsFit}
-use Rattle.pgw_tree.specs.Plain.{IsPlainPieceBefore, IsPlainField, IsPlainRow, ArePlainRows}
+use Rattle.pgw_tree.specs.Plain.{IsPlainRow, ArePlainRows}
 use Rattle.pgw_copy.proofs.Fields.{fields_append}
-use Rattle.pgw_tree.proofs.Pieces.{canonical_is, size_is}
+use Rattle.pgw_tree.proofs.RowFields.{field_of}
 use Rattle.pgw_tree.proofs.Prefixes.{spells_more, fits_more, canonical_more}
-
-pub plain_piece : (most : ℕ) (t : Shape) (piece : List ℕ) (v : Value) → most < 2 ^ 31 → SpellsPiece t piece v → length piece ≤ most → IsPlainField most t (frame (Some piece))
-plain_piece most t piece v max spelled long =
-    let is = canonical_is t piece v spelled in
-    record {
-      value = v;
-      spells = subst (λ (c : Cell). Spells t c v) (sym is) spelled;
-      fits = subst (λ (n : ℕ). n ≤ most) (sym (size_is t piece v spelled)) long;
-      field = subst (λ (c : Cell). IsField c (frame (Some piece))) (sym is) (omega (arith, max, long), refl);
-      is = ap frame (sym is);
-    }
-
-canonical_null : (t : Shape) → canonical_cell t null ≡ None
-canonical_null t = refl
-
-pub plain_null : (most : ℕ) (t : Shape) → is_nullable t ≡ true → IsPlainField most t (frame None)
-plain_null most t may_be = record {
-  value = null;
-  spells = (may_be, refl);
-  fits = omega arith;
-  field = (4294967295, lit< tt, lit< tt, refl);
-  is = refl;
-}
-
--- what the field of a piece in front of the rest says of a type
-plain_at : (most : ℕ) (t u : Shape) (bytes rest : List ℕ) → most < 2 ^ 31 → u ≡ t → IsPlainPieceBefore most t bytes rest → (field : List ℕ) × IsPlainField most u field × (bytes ≡ field ++ rest)
-plain_at most t u bytes rest max is p =
-    (frame (Some p.piece), subst (λ (s : Shape). IsPlainField most s (frame (Some p.piece))) (sym is) (plain_piece most t p.piece p.value max p.spells p.fits), p.is)
-
--- A nullable type has the pieces of its part.
-pub nullable_at : {most : ℕ} {t u : Shape} {bytes rest : List ℕ} → most < 2 ^ 31 → u ≡ nullable t → IsPlainPieceBefore most t bytes rest → (field : List ℕ) × IsPlainField most u field × (bytes ≡ field ++ rest)
-nullable_at {most = most} {t = t} {u = u} {bytes = bytes} {rest = rest} max is p = plain_at most (nullable t) u bytes rest max is record { piece = p.piece; value = p.value; spells = p.spells; fits = p.fits; is = p.is }
 
 pub some_weaker : {A : Type 0} (r : Option A) (P Q : A → Type 0) → IfSome r P → ((x : A) → P x → Q x) → IfSome r Q
 some_weaker None P Q h w = tt
 some_weaker (Some x) P Q h w = w x h
-
-pub plain_some : (most : ℕ) (t u : Shape) (bytes : List ℕ) (r : Option (Bor (List ℕ))) → most < 2 ^ 31 → u ≡ t → IfSome r (λ rest. IsPlainPieceBefore most t bytes rest.now) → IfSome r (λ rest. (field : List ℕ) × IsPlainField most u field × (bytes ≡ field ++ rest.now))
-plain_some most t u bytes r max is h = some_weaker r _ _ h (λ rest p. plain_at most t u bytes rest.now max is p)
-
-pub null_some : (most : ℕ) (u : Shape) (bytes : List ℕ) (r : Option (Bor (List ℕ))) → IfSome r (λ rest. bytes ≡ frame None ++ rest.now) → is_nullable u ≡ true → IfSome r (λ rest. (field : List ℕ) × IsPlainField most u field × (bytes ≡ field ++ rest.now))
-null_some most u bytes r h may_be = some_weaker r _ _ h (λ rest e. (frame None, plain_null most u may_be, e))
 
 pub some_at : {A : Type 0} (r : Option A) (x : A) (P : A → Type 0) → r ≡ Some x → IfSome r P → P x
 some_at {A = A} r x P is h = subst (λ (o : Option A). IfSome o P) is h
@@ -87,15 +52,16 @@ cells_many [] (v ∷ vs) s = absurd s
 cells_many (t ∷ ts) [] s = absurd s
 cells_many (t ∷ ts) (v ∷ vs) s = omega (arith, cells_many ts vs s.1)
 
-pub plain_more : (most : ℕ) (ts : List Shape) (vs : List Value) (x : List ℕ) (t : Shape) (y : List ℕ) → IsPlainFields most ts vs x → (f : IsPlainField most t y) → IsPlainFields most (ts ++ (t ∷ [])) (vs ++ (f.value ∷ [])) (x ++ y)
-plain_more most ts vs x t y p f =
+pub plain_more : (most : ℕ) (ts : List Shape) (vs : List Value) (x : List ℕ) (t : Shape) (y : List ℕ) → most < 2 ^ 31 → IsPlainFields most ts vs x → (f : IsPlainField most t y) → IsPlainFields most (ts ++ (t ∷ [])) (vs ++ (f.value ∷ [])) (x ++ y)
+plain_more most ts vs x t y max p f =
     let cells = canonical_cells ts vs in
     let one = canonical_cell t f.value in
     let more = canonical_more ts cells vs t f.value p.spelled in
+    let field = field_of one most max (subst (λ (n : ℕ). n ≤ most) (size_counted t f.value (spelled_has_type t one f.value f.spells)) f.fits) in
     record {
       spelled = subst (λ (cs : List Cell). SpellsRow (ts ++ (t ∷ [])) cs (vs ++ (f.value ∷ []))) (sym more) (spells_more ts cells vs t one f.value (cells_many ts vs p.spelled) p.spelled f.spells);
       fit = fits_more most ts cells vs t f.value p.spelled p.fit f.fits;
-      each = subst (λ (cs : List Cell). AreFields cs (x ++ y)) (sym more) (fields_append cells one x y p.each f.field);
+      each = subst (λ (cs : List Cell). AreFields cs (x ++ y)) (sym more) (fields_append cells one x y p.each (subst (λ (l : List ℕ). IsField one l) (sym f.is) field));
       is = ap (λ l. l ++ y) p.is ∙ ap (λ l. flat_map frame cells ++ l) (f.is ∙ sym (append-nil (frame one))) ∙ sym (flat_map-append frame cells (one ∷ [])) ∙ ap (flat_map frame) (sym more);
     }
 

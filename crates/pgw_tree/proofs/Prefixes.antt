@@ -1,16 +1,21 @@
 -- The first columns of a row and their cells, one column more at a time.
-use Rattle.std.proofs.Common.{◌≡◌, ℕ, ◌+◌, ◌<◌, List, [], ◌∷◌, ◌++◌, length, take, drop, get_or, Some, refl, sym, ap, ◌∙◌, arith, append_assoc, append-nil, drop-cons, add-one}
-use Rattle.std.specs.List.{flat_map, slice_get}
-use Rattle.std.proofs.lemmas.List.{take-append-drop, length-take-le, length-map, map-append, take_more}
-use Rattle.std.proofs.lemmas.Option.{get_or_from_slice_get, slice_get_within}
+use Rattle.std.proofs.Common.{◌≡◌, ℕ, ◌+◌, ◌<◌, List, [], ◌∷◌, ◌++◌, length, take, drop, get_or, refl, sym, ap, ◌∙◌, arith, append-nil, drop-cons, add-one, subst, zero, suc}
+use Rattle.std.specs.List.{flat_map}
+use Rattle.std.proofs.lemmas.List.{length-take-le, length-map, get_or-map, take_more}
 use Rattle.std.proofs.lemmas.Grind.{flat_map-append}
 use Rattle.pgw_wire.specs.Cell.{Cell, frame}
-use Rattle.pgw_tree.specs.declared.types.FirstType.{FirstType}
-use Rattle.pgw_tree.specs.declared.types.FirstType.TheVariants.{Int4}
-use Rattle.pgw_tree.specs.Tree.{Shape, Value, shape, shapes}
-use Rattle.pgw_tree.specs.Spells.{Spells, SpellsRow}
-use Rattle.pgw_tree.specs.Canonical.{Fits, FitsRow, canonical_cell, canonical_cells}
-use Rattle.pgw_tree.specs.Columns.{IsColumnAt}
+use Rattle.pgw_meta.specs.declared.types.PgType.{PgType}
+use Rattle.pgw_meta.specs.Shape.{Shape}
+use Rattle.pgw_meta.specs.Types.{shape, column_shapes}
+use Rattle.pgw_cell.specs.Built.{IsBuilt}
+use Rattle.pgw_cell.specs.Plain.{plain_cell, IsPlainCellOf}
+use Rattle.pgw_cell.specs.declared.plain.PlainCell.{PlainCell}
+use Rattle.pgw_cell.specs.Value.{Value}
+use Rattle.pgw_cell.specs.Cells.{Spells, Fits, canonical_cell}
+use Rattle.pgw_tree.specs.Spells.{SpellsRow}
+use Rattle.pgw_tree.specs.Canonical.{FitsRow, canonical_cells}
+use Rattle.pgw_tree.specs.ColumnTypes.{AreBuilt, plain_cells}
+use Rattle.pgw_tree.specs.Rewriting.{canonical_fields}
 
 pub spells_more : (ts : List Shape) (cells : List Cell) (vs : List Value) (t : Shape) (c : Cell) (v : Value) → length cells ≡ length ts → SpellsRow ts cells vs → Spells t c v → SpellsRow (ts ++ (t ∷ [])) (cells ++ (c ∷ [])) (vs ++ (v ∷ []))
 spells_more [] [] [] t c v many spelled one = (one, tt)
@@ -35,45 +40,39 @@ canonical_more (u ∷ us) (d ∷ ds) [] t v spelled = absurd spelled
 canonical_more (u ∷ us) (d ∷ ds) (w ∷ ws) t v spelled = ap (λ cs. canonical_cell u w ∷ cs) (canonical_more us ds ws t v spelled.1)
 
 -- The fields of some columns, and that of the next.
-pub fields_more : (old now new : List ℕ) (ts : List Shape) (cells : List Cell) (vs : List Value) (t : Shape) (v : Value) → SpellsRow ts cells vs → now ≡ old ++ flat_map frame (canonical_cells ts vs) → new ≡ now ++ frame (canonical_cell t v) → new ≡ old ++ flat_map frame (canonical_cells (ts ++ (t ∷ [])) (vs ++ (v ∷ [])))
-fields_more old now new ts cells vs t v spelled e f =
-    let fields = flat_map frame (canonical_cells ts vs) in
-    let one = frame (canonical_cell t v) in
-    f ∙ ap (λ l. l ++ one) e ∙ append_assoc old fields one
-    ∙ ap (λ l. old ++ (fields ++ l)) (sym (append-nil one))
-    ∙ ap (λ l. old ++ l) (sym (flat_map-append frame (canonical_cells ts vs) (canonical_cell t v ∷ [])))
-    ∙ ap (λ cs. old ++ flat_map frame cs) (sym (canonical_more ts cells vs t v spelled))
+pub fields_more : (ts : List Shape) (cells : List Cell) (vs : List Value) (t : Shape) (v : Value) → SpellsRow ts cells vs → canonical_fields (ts ++ (t ∷ [])) (vs ++ (v ∷ [])) ≡ canonical_fields ts vs ++ frame (canonical_cell t v)
+fields_more ts cells vs t v spelled =
+    ap (flat_map frame) (canonical_more ts cells vs t v spelled)
+    ∙ flat_map-append frame (canonical_cells ts vs) (canonical_cell t v ∷ [])
+    ∙ ap (λ l. canonical_fields ts vs ++ l) (append-nil (frame (canonical_cell t v)))
 
-pub shapes_more : (ts : List FirstType) (i : ℕ) → i < length ts → shapes (take (i + 1) ts) ≡ shapes (take i ts) ++ (shape (get_or ts i Int4) ∷ [])
-shapes_more ts i within = ap shapes (take_more ts i Int4 within) ∙ map-append shape (take i ts) (get_or ts i Int4 ∷ [])
+-- The type stands at this place, behind so many others.
+pub record IsAt (ts : List Shape) (place : ℕ) (t : Shape) : Type 0 where
+  pub within : place < length ts
+  pub before : length (take place ts) ≡ place
+  pub first : take (place + 1) ts ≡ take place ts ++ (t ∷ [])
+  pub rest : drop place ts ≡ t ∷ drop (place + 1) ts
 
-pub cells_more : (cells : List Cell) (i : ℕ) (c : Cell) → slice_get cells i ≡ Some c → take (i + 1) cells ≡ take i cells ++ (c ∷ [])
-cells_more cells i c at = take_more cells i c (slice_get_within cells i c at) ∙ ap (λ d. take i cells ++ (d ∷ [])) (get_or_from_slice_get cells i c c at)
+pub shape_at : (ts : List Shape) (i : ℕ) (d : Shape) → i < length ts → IsAt ts i (get_or ts i d)
+shape_at ts i d within = record {
+  within = within;
+  before = length-take-le i ts (omega (arith, within));
+  first = take_more ts i d within;
+  rest = drop-cons ts i d within ∙ ap (λ k. get_or ts i d ∷ drop k ts) (sym (add-one i));
+}
 
-split_at : {A : Type 0} (xs : List A) (i : ℕ) (d : A) → i < length xs → xs ≡ take i xs ++ (get_or xs i d ∷ drop (i + 1) xs)
-split_at xs i d within =
-    sym (take-append-drop i xs) ∙ ap (λ l. take i xs ++ l) (drop-cons xs i d within ∙ ap (λ k. get_or xs i d ∷ drop k xs) (sym (add-one i)))
+pub type_at : (ts : List PgType) (i : ℕ) (t : PgType) → i < length ts → t ≡ get_or ts i t → IsAt (column_shapes ts) i (shape t)
+type_at ts i t within is =
+    subst (λ (u : Shape). IsAt (column_shapes ts) i u) (get_or-map shape ts i t (shape t) within ∙ ap shape (sym is)) (shape_at (column_shapes ts) i (shape t) (omega (arith, within, length-map ts shape)))
 
-pub as_many : (ts : List FirstType) (cells : List Cell) (i : ℕ) (c : Cell) → i < length ts → slice_get cells i ≡ Some c → length (take i cells) ≡ length (shapes (take i ts))
-as_many ts cells i c within at =
-    let inside = slice_get_within cells i c at in
-    length-take-le i cells (omega (arith, inside)) ∙ sym (length-map (take i ts) shape ∙ length-take-le i ts (omega (arith, within)))
+built_behind : (ts : List Shape) (i : ℕ) → AreBuilt ts → AreBuilt (drop i ts)
+built_behind ts zero each = each
+built_behind [] (suc i) each = each
+built_behind (t ∷ ts) (suc i) each = built_behind ts i each.1
 
--- the columns in front of one, and their values
-pub column_at : (most : ℕ) (ts : List FirstType) (cells : List Cell) (i : ℕ) (c : Cell) (vs : List Value) → i < length ts → slice_get cells i ≡ Some c → SpellsRow (shapes (take i ts)) (take i cells) vs → FitsRow most (shapes (take i ts)) vs → IsColumnAt most (shapes ts) cells i (shape (get_or ts i Int4)) c
-column_at most ts cells i c vs within at spelled fit =
-    let inside = slice_get_within cells i c at in
-    let long = length-take-le i ts (omega (arith, within)) in
-    record {
-      before = shapes (take i ts);
-      after = shapes (drop (i + 1) ts);
-      spelling = take i cells;
-      rest = drop (i + 1) cells;
-      values = vs;
-      columns_are = ap shapes (split_at ts i Int4 within) ∙ map-append shape (take i ts) (get_or ts i Int4 ∷ drop (i + 1) ts);
-      cells_are = split_at cells i c inside ∙ ap (λ d. take i cells ++ (d ∷ drop (i + 1) cells)) (get_or_from_slice_get cells i c c at);
-      place = length-map (take i ts) shape ∙ long;
-      spelled = spelled;
-      each = as_many ts cells i c within at;
-      fit = fit;
-    }
+pub built_at : (ts : List Shape) (i : ℕ) (t : Shape) → IsAt ts i t → AreBuilt ts → IsBuilt t
+built_at ts i t at each = let here = subst AreBuilt at.rest (built_behind ts i each) in here.0
+
+-- What is kept of the columns, at one of them.
+pub plain_at : (cells : List PlainCell) (ts : List Shape) (i : ℕ) (none : PlainCell) (d : Shape) → cells ≡ plain_cells ts → i < length ts → IsPlainCellOf (get_or cells i none) (get_or ts i d)
+plain_at cells ts i none d each within = ap (λ l. get_or l i none) each ∙ get_or-map plain_cell ts i d none within

@@ -1,10 +1,12 @@
 -- All fields of a row: those of its columns, and those behind them.
-use Rattle.std.proofs.Common.{◌≡◌, ℕ, ◌≤◌, List, [], ◌∷◌, ◌++◌, length, sym, ap, ◌∙◌, arith, append_assoc}
+use Rattle.std.proofs.Common.{◌≡◌, ℕ, ◌+◌, ◌<◌, ◌≤◌, ◌^◌, List, [], ◌∷◌, ◌++◌, length, None, Some, refl, sym, ap, ◌∙◌, arith, append_assoc, append-nil, drop, lit<}
 use Rattle.pgw_wire.proofs.Lists.{same_rest}
-use Rattle.pgw_wire.specs.Cell.{Cell}
-use Rattle.pgw_tree.specs.Tree.{Shape, Value}
+use Rattle.pgw_wire.specs.Cell.{Cell, frame, size_of}
+use Rattle.pgw_meta.specs.Shape.{Shape}
+use Rattle.pgw_cell.specs.Value.{Value}
 use Rattle.pgw_tree.specs.Spells.{SpellsRow}
-use Rattle.pgw_copy.specs.Format.{AreFields}
+use Rattle.pgw_copy.specs.Format.{IsField, AreFields, IsRow}
+use Rattle.pgw_tree.specs.Rewriting.{HasRowFields}
 use Rattle.pgw_copy.proofs.Fields.{field_once}
 
 -- A row spells no more values than it has fields.
@@ -32,3 +34,17 @@ fields_once (c ∷ cs) (o ∷ os) x x' behind rest many each each' e =
     let others = same_rest each.0 each'.0 (each.1 ++ behind) (each'.1 ++ rest) (ap length field) whole in
     let behind_same = fields_once cs os each.1 each'.1 behind rest (omega (arith, many)) each.3 each'.3 others in
     each.4 ∙ ap (λ l. l ++ each.1) field ∙ ap (λ l. each'.0 ++ l) behind_same ∙ sym each'.4
+
+-- A cell has a field where it is short enough.
+pub field_of : (cell : Cell) (most : ℕ) → most < 2 ^ 31 → size_of cell ≤ most → IsField cell (frame cell)
+field_of None most max fits = (4294967295, lit< tt, lit< tt, refl)
+field_of (Some p) most max fits = (omega (arith, max, fits), refl)
+
+-- the length of a field is four bytes
+pub frame_size : (cell : Cell) → length (frame cell) ≡ 4 + size_of cell
+frame_size None = refl
+frame_size (Some p) = omega arith
+
+-- The bytes of a row behind its count are its fields.
+pub row_fields : (ts : List Shape) (cells : List Cell) (bytes : List ℕ) → IsRow cells bytes → length ts ≤ length cells → HasRowFields ts cells (drop 2 bytes)
+row_fields ts cells bytes r enough = record { starts = record { fields = r.fields; behind = []; each = r.each; is = ap (drop 2) r.is ∙ sym (append-nil r.fields) }; enough = enough }

@@ -1,14 +1,18 @@
 -- Rows that were copied from bytes that a source shows, behind those that were copied before.
-use Rattle.std.proofs.Common.{◌≡◌, ℕ, length-drop, ◌+◌, ◌-◌, ◌<◌, ◌≤◌, List, [], ◌∷◌, ◌++◌, length, take, drop, Result, Err, inl, inr, refl, sym, ap, ◌∙◌, arith, subst, append_assoc, append-nil, length-append}
+use Rattle.std.proofs.Common.{◌≡◌, ℕ, length-drop, ◌+◌, ◌-◌, ◌<◌, ◌≤◌, List, [], ◌∷◌, ◌++◌, length, take, drop, Bool, true, false, Result, Ok, Err, inl, inr, refl, sym, ap, ◌∙◌, arith, subst, append_assoc, append-nil, length-append}
 use Rattle.std.specs.Int.{to_be_bytes, w16}
 use Rattle.std.specs.List.{flat_map, AllByRecursion}
 use Rattle.std.proofs.Math.Seq.{take-add, take-append-add}
 use Rattle.std.proofs.lemmas.List.{take-append-drop, take-append-le}
 use Rattle.std.proofs.lemmas.Grind.{flat_map-append}
-use Rattle.pgw_wire.specs.Outside.{SourceState, SinkState, Took, Wrote, WroteFront}
-use Rattle.pgw_wire.proofs.Taking.{takes_later}
+use Rattle.std.specs.Option.{ok_or}
+use Rattle.std.specs.Io.KnownBytes.{Keeps}
+use Rattle.pgw_wire.specs.Outside.{SourceState, SinkState, left, GoesOn, Took, TookReady, HasFailed, Wrote, WroteFront}
+use Rattle.pgw_wire.proofs.Taking.{took_consumed, took_kept, takes_done, takes_refused, takes_later}
 use Rattle.pgw_wire.proofs.Adding.{wrote_then}
 use Rattle.pgw_copy.specs.Reader.{IsWholeRow}
+use Rattle.pgw_meta.specs.Shape.{Shape}
+use Rattle.pgw_cell.specs.Value.{Value}
 use Rattle.pgw_tree.specs.Spells.{SpellsRow}
 use Rattle.pgw_tree.specs.Canonical.{FitsRow, canonical_row, canonical_front}
 use Rattle.pgw_tree.specs.Stream.{AreRows, IsFront, IsWithin}
@@ -21,9 +25,10 @@ use Rattle.pgw_wire.specs.Cell.{Cell}
 use Rattle.pgw_copy.specs.Format.{IsRow, canonical_header}
 use Rattle.pgw_wire.proofs.Lists.{same_front, same_rest}
 use Rattle.pgw_wire.proofs.Numbers.{same_number_2}
-use Rattle.pgw_tree.specs.Tree.{Shape, Value}
 use Rattle.pgw_tree.specs.Plain.{IsPlainRow, ArePlainRows}
-use Rattle.pgw_tree.specs.Runs.{AreRespelled, EndsInRow, IsRun, IsBrokenRun, rows_fault, shown_fault}
+use Rattle.pgw_tree.specs.declared.shown.CopiedFront.{CopiedFront}
+use Rattle.pgw_tree.specs.declared.shown.CopiedFront.TheVariants.{Whole, Broken}
+use Rattle.pgw_tree.specs.Runs.{AreRespelled, EndsInRow, IsRun, IsBrokenRun, rows_fault, shown_fault, length_of, rows_of, copied_says}
 use Rattle.pgw_tree.proofs.Copies.{front_more, within_more, rows_more, canonical_more}
 use Rattle.pgw_tree.proofs.RowFields.{fields_once}
 use Rattle.pgw_tree.proofs.PlainRows.{rows_one_more, plain_rows_fit, plain_rows_are}
@@ -397,3 +402,30 @@ rows_later {P = P} limits ts n is t u = takes_later P _ is t u (λ d x y k h. ro
 pub shown_later : {S K X Y : Type 0} {a b c : SourceState S} {before mid now : SinkState K} {r : Result X CopyFault} {e : CopyFault} {P1 : Y → List ℕ → Type 0} {P : X → List ℕ → Type 0} (limits : Limits) (ts : List Shape) (n : ℕ) → r ≡ Err e
     → Took a b (IsCopying limits ts n (Wrote before mid)) → Copies {X = Y} b c (Err e) P1 (shown_fault limits ts n (Wrote mid now)) → Copies a c r P (λ fault. fault_says limits ts (canonical_front ts) fault (Wrote before now))
 shown_later {mid = mid} {now = now} {P = P} limits ts n is t u = takes_later P _ is t u (λ d x y k h. rows_says limits ts n d x y k (is_rows_fault limits ts n (Wrote mid now) d y h))
+
+-- What a source showed was copied, or it showed nothing.
+pub shown_answer : {S K : Type 0} {a b : SourceState S} {before now : SinkState K} (limits : Limits) (ts : List Shape) (n : ℕ) (shows : Bool) (copied : CopiedFront) (r : Result ℕ CopyFault) → n ≤ limits.rows_max → r ≡ ok_or (rows_of copied) WriteFault → GoesOn a b
+    → (shows ≡ true → (ready : List ℕ) × (k : ℕ) × TookReady (left a) (left b) ready k × ((k ≡ length_of copied) × copied_says limits ts n (Wrote before now) (HasFailed before now) ready copied))
+    → (shows ≡ false → Keeps (left a) (left b) × (copied ≡ Whole n 0) × Wrote before now [])
+    → Copies a b r (λ rows. IsRun limits ts n rows (Wrote before now)) (shown_fault limits ts n (Wrote before now))
+shown_answer {a = a} {b = b} {before = before} {now = now} limits ts n shows copied r few is on shown none = by_test shows shown none
+  where
+    by_copied : (copied : CopiedFront) (ready : List ℕ) (k : ℕ) → r ≡ ok_or (rows_of copied) WriteFault → TookReady (left a) (left b) ready k → k ≡ length_of copied → copied_says limits ts n (Wrote before now) (HasFailed before now) ready copied
+        → Copies a b r (λ rows. IsRun limits ts n rows (Wrote before now)) (shown_fault limits ts n (Wrote before now))
+    by_copied (Whole rows len) ready k e took long says =
+        let run = subst (λ (j : ℕ). IsRun limits ts n rows (Wrote before now) (take j ready)) (sym long) says.1 in
+        subst (λ (s : Result ℕ CopyFault). Copies a b s (λ rows. IsRun limits ts n rows (Wrote before now)) (shown_fault limits ts n (Wrote before now))) (sym e)
+        (takes_done rows _ _ (took_consumed a b (take k ready) _ took.consumed on run))
+    by_copied (Broken len) ready k e took long says =
+        let broken = subst (λ (j : ℕ). IsBrokenRun limits ts n (Wrote before now) (take j ready)) (sym long) says.1 in
+        takes_refused _ _ e (took_consumed a b (take k ready) _ took.consumed on (inr (refl, broken))) (λ h. absurd (cc)) (λ h. absurd (cc))
+
+    by_test : (shows : Bool) → (shows ≡ true → (ready : List ℕ) × (k : ℕ) × TookReady (left a) (left b) ready k × ((k ≡ length_of copied) × copied_says limits ts n (Wrote before now) (HasFailed before now) ready copied))
+        → (shows ≡ false → Keeps (left a) (left b) × (copied ≡ Whole n 0) × Wrote before now [])
+        → Copies a b r (λ rows. IsRun limits ts n rows (Wrote before now)) (shown_fault limits ts n (Wrote before now))
+    by_test true shown none = let s = shown refl in by_copied copied s.0 s.1 is s.2 s.3.0 s.3.1
+    by_test false shown none =
+        let k = none refl in
+        let same : r ≡ Ok n = is ∙ ap (λ c. ok_or (rows_of c) WriteFault) k.1 in
+        subst (λ (s : Result ℕ CopyFault). Copies a b s (λ rows. IsRun limits ts n rows (Wrote before now)) (shown_fault limits ts n (Wrote before now))) (sym same)
+        (takes_done n _ _ (took_kept a b _ k.0 on (run_none limits ts n (Wrote before now) few k.2)))

@@ -2,7 +2,8 @@
 use Rattle.std.proofs.Common.{◌≡◌, ℕ, List, [], ◌∷◌, ◌++◌, length, None, Some, refl, sym, ap, ◌∙◌, arith, append_assoc, subst, w32, lit<}
 use Rattle.std.specs.Int.{to_be_bytes, w16}
 use Rattle.pgw_wire.specs.Cell.{Cell}
-use Rattle.pgw_tree.specs.Tree.{Shape, Value}
+use Rattle.pgw_meta.specs.Shape.{Shape}
+use Rattle.pgw_cell.specs.Value.{Value}
 use Rattle.pgw_tree.specs.Spells.{SpellsRow}
 use Rattle.pgw_copy.specs.Format.{IsHeader, IsField, AreFields, IsCount, trailer}
 use Rattle.pgw_tree.specs.Stream.{AreRows, IsStream}
@@ -12,7 +13,7 @@ use Rattle.pgw_copy.proofs.Reading.{length-count}
 use Rattle.pgw_copy.proofs.Headers.{header_splits}
 use Rattle.pgw_copy.proofs.Fields.{Says, length_first, field_once}
 use Rattle.pgw_tree.proofs.RowFields.{fields_once}
-use Rattle.pgw_tree.proofs.Reading.{value_once}
+use Rattle.pgw_cell.proofs.Reading.{value_once}
 
 -- A count of 0 or more is not the end.
 pub count_is_not_end : (count : ℕ) (x behind rest : List ℕ) → IsCount (Some count) x → x ++ behind ≡ trailer ++ rest → ⊥
@@ -35,7 +36,7 @@ cell_said word (Some p) None behind s s' = absurd (omega (arith, s.0, s'.0))
 cell_said word (Some p) (Some p') behind s s' = ap Some (sym s.2 ∙ s'.2)
 
 -- A field is the field of one cell.
-cell_once : (c c' : Cell) (field : List ℕ) → IsField c field → IsField c' field → c ≡ c'
+pub cell_once : (c c' : Cell) (field : List ℕ) → IsField c field → IsField c' field → c ≡ c'
 cell_once c c' field h h' =
     let f = length_first c field h in
     let f' = length_first c' field h' in

@@ -1,11 +1,16 @@
 -- What the definitions say of headers, rows and streams that are written out byte by byte.
 use Rattle.std.proofs.Common.{◌≡◌, ℕ, pos, negsuc, List, [], ◌∷◌, ◌++◌, length, get_or, drop, Some, None, refl, ap, ◌∙◌, lit<, lit≤, append-nil, subst, arith}
 use Rattle.std.specs.Str.{IsUtf8}
+use Rattle.std.specs.Int.{w32}
 use lib.Utf8.{encode}
 use Rattle.pgw_wire.specs.Cell.{Cell}
-use Rattle.pgw_tree.specs.Tree.{Shape, Value, int4, text, nullable, null, number, string}
+use Rattle.pgw_meta.specs.Shape.{Shape, scalar, int4, text, nullable}
+use Rattle.pgw_cell.specs.Value.{Value, null, number, string}
+use Rattle.pgw_cell.specs.Cells.{canonical_cell}
 use Rattle.pgw_tree.specs.Spells.{SpellsRow}
-use Rattle.pgw_tree.specs.Canonical.{canonical_cell, canonical_front}
+use Rattle.pgw_tree.specs.Canonical.{canonical_front}
+use Rattle.pgw_scalar.specs.Whole.{IsSigned}
+use Rattle.pgw_scalar.specs.Text.{IsText}
 use Rattle.pgw_copy.specs.Format.{IsHeader, IsField, IsRow, trailer}
 use Rattle.pgw_tree.specs.Stream.{IsFront, IsStream, IsWithin}
 use Rattle.pgw_tree.specs.Limits.{default_limits}
@@ -15,7 +20,7 @@ abbrev pub plain : List ℕ
 plain = 80 ∷ 71 ∷ 67 ∷ 79 ∷ 80 ∷ 89 ∷ 10 ∷ 255 ∷ 13 ∷ 10 ∷ 0 ∷ 0 ∷ 0 ∷ 0 ∷ 0 ∷ 0 ∷ 0 ∷ 0 ∷ 0 ∷ []
 
 abbrev pub columns : List Shape
-columns = int4 ∷ []
+columns = scalar int4 ∷ []
 
 -- the row of one value, 42
 abbrev pub values : List Value
@@ -44,8 +49,11 @@ cell_least = (2147483648, lit≤ tt, lit< tt, refl)
 pub plain_is_header : IsHeader plain
 plain_is_header = record { fixed = plain; extension = []; begins = record { flags = 0; low = lit< tt; short = lit< tt; is = refl }; is = refl }
 
+pub int4_42 : IsSigned w32 (0 ∷ 0 ∷ 0 ∷ 42 ∷ []) (pos 42)
+int4_42 = record { fits = record { sfits = lit< tt }; bytes = refl }
+
 pub spelled_42 : (cells : List Cell) → SpellsRow columns (Some (0 ∷ 0 ∷ 0 ∷ 42 ∷ []) ∷ cells) values
-spelled_42 cells = ((pos 42, record { fits = record { sfits = lit< tt }; bytes = refl }, refl), tt)
+spelled_42 cells = ((pos 42, int4_42, refl), tt)
 
 -- A header and the end are a stream of no rows, and the canonical one.
 pub empty_stream : IsStream columns (plain ++ 255 ∷ 255 ∷ []) []
@@ -89,7 +97,7 @@ pub one_within : IsWithin default_limits columns (values ∷ [])
 one_within = record { few = lit≤ tt; fit = ((lit≤ tt, tt), tt) }
 
 -- -1 is written in two's complement.
-pub minus_one : canonical_cell int4 (number (negsuc 0)) ≡ Some (255 ∷ 255 ∷ 255 ∷ 255 ∷ [])
+pub minus_one : canonical_cell (scalar int4) (number (negsuc 0)) ≡ Some (255 ∷ 255 ∷ 255 ∷ 255 ∷ [])
 minus_one = refl
 
 -- A row whose count is 1 is that and the field of one cell.
@@ -122,7 +130,7 @@ null_spells_none cells vs row spelled =
 
 -- A null where a column allows one, by any negative length, and a text: the canonical stream writes -1 for the null.
 abbrev wide_columns : List Shape
-wide_columns = nullable int4 ∷ nullable text ∷ text ∷ []
+wide_columns = nullable (scalar int4) ∷ nullable (scalar text) ∷ scalar text ∷ []
 
 abbrev wide_values : List Value
 wide_values = null ∷ null ∷ string (195 ∷ 169 ∷ []) ∷ []
@@ -134,8 +142,16 @@ pub letter_e_acute : IsUtf8 (195 ∷ 169 ∷ [])
 unfolding encode
 letter_e_acute = (233 ∷ [], (refl, refl))
 
+-- Two bytes that are one character, and no byte, are a text.
+pub e_acute : IsText (195 ∷ 169 ∷ []) (195 ∷ 169 ∷ [])
+e_acute = record { utf8 = letter_e_acute; bytes = refl }
+
+pub no_bytes : IsText [] []
+unfolding encode
+no_bytes = record { utf8 = ([], (refl, refl)); bytes = refl }
+
 spelled_wide : SpellsRow wide_columns (None ∷ None ∷ Some (195 ∷ 169 ∷ []) ∷ []) wide_values
-spelled_wide = ((refl, refl), ((refl, refl), ((195 ∷ 169 ∷ [], record { utf8 = letter_e_acute; bytes = refl }, refl), tt)))
+spelled_wide = ((refl, refl), ((refl, refl), ((195 ∷ 169 ∷ [], e_acute, refl), tt)))
 
 pub null_stream : IsStream wide_columns (plain ++ 0 ∷ 3 ∷ 128 ∷ 0 ∷ 0 ∷ 0 ∷ 255 ∷ 255 ∷ 255 ∷ 254 ∷ 0 ∷ 0 ∷ 0 ∷ 2 ∷ 195 ∷ 169 ∷ 255 ∷ 255 ∷ []) (wide_values ∷ [])
 null_stream = record { front = plain ++ 0 ∷ 3 ∷ fields; begins = front; is = refl }

@@ -7,10 +7,10 @@ use Rattle.pgw_wire.specs.Outside.{WroteFront}
 use Rattle.pgw_copy.specs.Format.{magic, IsRow}
 use Rattle.pgw_tree.specs.declared.fault.CopyFault.{CopyFault}
 use Rattle.pgw_tree.specs.declared.fault.CopyFault.TheVariants.{BadHeader, BadFlags, Truncated, BadFieldCount, UnexpectedEndOfRow, BadValue, TooLong, RowLimit, ReadFault, WriteFault, NoMemory}
-use Rattle.pgw_tree.specs.Tree.{Shape, int4, text}
+use Rattle.pgw_meta.specs.Shape.{Shape, scalar, int4, text}
+use Rattle.pgw_tree.specs.Canonical.{canonical_front}
 use Rattle.pgw_tree.specs.Columns.{IsColumnAt}
 use Rattle.pgw_tree.specs.Limits.{Limits, default_limits}
-use Rattle.pgw_tree.specs.Canonical.{canonical_front}
 use Rattle.pgw_tree.specs.Causes.{bad_header, bad_flags, truncated_header, no_memory_at_first, RowCause, truncated, bad_field_count, unexpected_end_of_row, bad_value, too_long, row_limit, read_fault, no_memory, IsCutRowAt, Stopped, Unwritten, in_header, in_row, in_end, fault_says}
 use Rattle.pgw_copy.proofs.Worked.{bad_magic, cut_in_field, high_flag, minus_two, empty_row}
 use Rattle.pgw_tree.proofs.Worked.{plain, columns, values, field_42, field_null, null_row, plain_is_header, front_42, one_within}
@@ -84,7 +84,7 @@ few_fields = unexpected_end_of_row [] refl (record { allowed = lit< tt; is = emp
 
 -- A null breaks, in any row that may be copied.
 pub null_value : (row : ℕ) → row < 18446744073709551615 → RowCause default_limits columns row (BadValue row 0 Null) (0 ∷ 1 ∷ 255 ∷ 255 ∷ 255 ∷ 255 ∷ [])
-null_value row allowed = bad_value (None ∷ []) 0 Null refl (record { allowed = allowed; is = null_row }) (record { enough = lit≤ tt; t = int4; cell = None; placed = at_first 2147483647 int4 None; breaks = null_breaks })
+null_value row allowed = bad_value (None ∷ []) 0 Null refl (record { allowed = allowed; is = null_row }) (record { enough = lit≤ tt; t = scalar int4; cell = None; placed = at_first 2147483647 (scalar int4) None; breaks = null_breaks })
 
 -- No other row is named than the one behind the rows before.
 pub other_row : (bytes : List ℕ) → RowCause default_limits columns 0 (BadValue 1 0 Null) bytes → ⊥
@@ -92,13 +92,13 @@ other_row bytes h = omega (arith, (says h).2 1 0 Null refl)
 
 -- Three bytes for a number break.
 pub short_value : RowCause default_limits columns 0 (BadValue 0 0 Size) (0 ∷ 1 ∷ 0 ∷ 0 ∷ 0 ∷ 3 ∷ 0 ∷ 0 ∷ 42 ∷ [])
-short_value = bad_value (Some (0 ∷ 0 ∷ 42 ∷ []) ∷ []) 0 Size refl (record { allowed = lit< tt; is = row }) (record { enough = lit≤ tt; t = int4; cell = Some (0 ∷ 0 ∷ 42 ∷ []); placed = at_first 2147483647 int4 (Some (0 ∷ 0 ∷ 42 ∷ [])); breaks = three_bytes })
+short_value = bad_value (Some (0 ∷ 0 ∷ 42 ∷ []) ∷ []) 0 Size refl (record { allowed = lit< tt; is = row }) (record { enough = lit≤ tt; t = scalar int4; cell = Some (0 ∷ 0 ∷ 42 ∷ []); placed = at_first 2147483647 (scalar int4) (Some (0 ∷ 0 ∷ 42 ∷ [])); breaks = three_bytes })
   where
     row : IsRow (Some (0 ∷ 0 ∷ 42 ∷ []) ∷ []) (0 ∷ 1 ∷ 0 ∷ 0 ∷ 0 ∷ 3 ∷ 0 ∷ 0 ∷ 42 ∷ [])
     row = record { fields = 0 ∷ 0 ∷ 0 ∷ 3 ∷ 0 ∷ 0 ∷ 42 ∷ []; few = lit< tt; each = (_, [], (lit< tt, refl), refl, refl); is = refl }
 
 -- A text of three bytes is too long where two are allowed.
-pub long_value : RowCause (record { rows_max = 1; field_max = 2 }) (text ∷ []) 0 (TooLong 0 0) (0 ∷ 1 ∷ 0 ∷ 0 ∷ 0 ∷ 3 ∷ 97 ∷ 98 ∷ 99 ∷ [])
+pub long_value : RowCause (record { rows_max = 1; field_max = 2 }) (scalar text ∷ []) 0 (TooLong 0 0) (0 ∷ 1 ∷ 0 ∷ 0 ∷ 0 ∷ 3 ∷ 97 ∷ 98 ∷ 99 ∷ [])
 long_value = too_long (Some (97 ∷ 98 ∷ 99 ∷ []) ∷ []) 0 refl (record { allowed = lit< tt; is = row }) long_text
   where
     row : IsRow (Some (97 ∷ 98 ∷ 99 ∷ []) ∷ []) (0 ∷ 1 ∷ 0 ∷ 0 ∷ 0 ∷ 3 ∷ 97 ∷ 98 ∷ 99 ∷ [])

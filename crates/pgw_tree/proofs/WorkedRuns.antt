@@ -3,15 +3,16 @@ use Rattle.std.proofs.Common.{◌≡◌, ℕ, pos, List, [], ◌∷◌, ◌++◌
 use Rattle.std.specs.List.{flat_map}
 use Rattle.std.proofs.lemmas.Grind.{flat_map-append}
 use Rattle.pgw_copy.specs.Format.{IsField}
-use Rattle.pgw_tree.specs.Tree.{Shape, Value, int4, text, nullable, null, number, string}
+use Rattle.pgw_meta.specs.Shape.{Shape, scalar, int4, text, nullable}
+use Rattle.pgw_cell.specs.Value.{Value, null, truth, number, bytes, string}
 use Rattle.pgw_tree.specs.Canonical.{canonical_row}
 use Rattle.pgw_tree.specs.Copying.{IsValuesRow}
 use Rattle.pgw_tree.specs.Plain.{IsPlainRow, ArePlainRows}
 use Rattle.pgw_tree.specs.Runs.{AreRespelled, EndsInRow}
-use Rattle.pgw_tree.proofs.WorkedScalars.{int4_42, no_bytes, e_acute}
+use Rattle.pgw_tree.proofs.Worked.{int4_42, no_bytes, e_acute}
 
 abbrev columns : List Shape
-columns = nullable int4 ∷ text ∷ []
+columns = nullable (scalar int4) ∷ scalar text ∷ []
 
 -- the row of 42 and "é", of 16 bytes, and that of a null and an empty text, of 10
 abbrev first_values : List Value
@@ -75,7 +76,9 @@ other_not_plain values p = none values p.is
     none : (values : List Value) → other_row ≡ canonical_row columns values → ⊥
     none [] e = omega (arith, ap length e)
     none (null ∷ vs) e = omega (arith, ap (λ l. get_or l 5 0) e)
+    none (truth b ∷ vs) e = omega (arith, ap (λ l. get_or l 2 0) e)
     none (number n ∷ vs) e = omega (arith, ap (λ l. get_or l 2 0) e)
+    none (bytes b ∷ vs) e = omega (arith, ap (λ l. get_or l 2 0) e)
     none (string s ∷ vs) e = omega (arith, ap (λ l. get_or l 2 0) e)
 
 -- It is respelled as the second row.
@@ -128,8 +131,8 @@ ends_in_second = record {
   is = refl;
 }
 
-pub ends_in_none : (bytes : List ℕ) → EndsInRow 4 columns both 26 bytes → ⊥
-ends_in_none bytes h =
+pub ends_in_none : (run : List ℕ) → EndsInRow 4 columns both 26 run → ⊥
+ends_in_none run h =
     let form = canonical_row columns in
     let all = ap (λ rows. length (flat_map form rows)) h.rows_are ∙ ap length (flat_map-append form h.before (h.last ∷ h.after)) in
     omega (arith, h.ends, all, length-append (flat_map form h.before) (flat_map form (h.last ∷ h.after)), length-append (form h.last) (flat_map form h.after))

@@ -1,30 +1,15 @@
--- The one cell that a value is written as, and what rows of values are written as, from the header through the last of
--- them. Behind that the end makes it their canonical stream.
-use Rattle.std.specs.Prelude.{ℕ, ◌≤◌, List, [], ◌∷◌, ◌++◌, length, None, Some}
+-- What rows of values are written as, from the header through the last of them. Behind that the end makes it their
+-- canonical stream.
+use Rattle.std.specs.Prelude.{ℕ, List, [], ◌∷◌, ◌++◌, length}
 use Rattle.std.specs.List.{flat_map}
 use Rattle.std.specs.Int.{to_be_bytes, w16}
 use Rattle.pgw_wire.specs.Cell.{Cell, frame}
-use Rattle.pgw_tree.specs.Tree.{Shape, Value, null}
-use Rattle.pgw_tree.specs.Pieces.{canonical_piece, piece_size}
+use Rattle.pgw_meta.specs.Shape.{Shape}
+use Rattle.pgw_cell.specs.Value.{Value}
+use Rattle.pgw_cell.specs.Cells.{canonical_cell, Fits}
 use Rattle.pgw_copy.specs.Format.{canonical_header}
 
-abbrev pub unless_null : Value → List ℕ → Cell
-unless_null null piece = None
-unless_null _ piece = Some piece
-
--- The one cell that a value of the type is written as.
-abbrev pub canonical_cell : Shape → Value → Cell
-canonical_cell t v = unless_null v (canonical_piece t v)
-
--- how many bytes the canonical cell has of a value that a cell of the type spells, 0 for a null
-abbrev pub canonical_size : Shape → Value → ℕ
-canonical_size t null = 0
-canonical_size t v = piece_size t v
-
--- The value's canonical cell has at most this many bytes.
-abbrev pub Fits : ℕ → Shape → Value → Type 0
-Fits most t v = canonical_size t v ≤ most
-
+-- Each value's canonical cell has at most this many bytes.
 abbrev pub FitsRow : ℕ → List Shape → List Value → Type 0
 FitsRow most (t ∷ ts) (v ∷ vs) = Fits most t v × FitsRow most ts vs
 FitsRow most [] vs = Unit {0}

@@ -8,7 +8,8 @@ use Rattle.pgw_copy.specs.Format.{IsHeader, IsCutHeader, IsCount, IsRow, IsCutRo
 use Rattle.pgw_copy.specs.Reader.{IsBadHeader, HasHighFlags, IsBadCount, IsWholeRow}
 use Rattle.pgw_tree.specs.declared.fault.CopyFault.{CopyFault}
 use Rattle.pgw_tree.specs.declared.fault.CopyFault.TheVariants.{BadHeader, BadFlags, Truncated, BadFieldCount, UnexpectedEndOfRow, BadValue, TooLong, RowLimit, ReadFault, WriteFault, NoMemory}
-use Rattle.pgw_tree.specs.Tree.{Shape, Value}
+use Rattle.pgw_meta.specs.Shape.{Shape}
+use Rattle.pgw_cell.specs.Value.{Value}
 use Rattle.pgw_tree.specs.Columns.{BreaksAt, IsLongAt}
 use Rattle.pgw_tree.specs.Stream.{IsFront, IsWithin, IsStream, IsStreamOf}
 use Rattle.pgw_tree.specs.Limits.{Limits}

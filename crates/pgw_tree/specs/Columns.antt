@@ -2,10 +2,11 @@
 use Rattle.std.specs.Prelude.{◌≡◌, ◌≤◌, ℕ, List, ◌∷◌, ◌++◌, length}
 use Rattle.pgw_wire.specs.Cell.{Cell}
 use Rattle.pgw_wire.specs.declared.kind.Break.{Break}
-use Rattle.pgw_tree.specs.Tree.{Shape, Value}
-use Rattle.pgw_tree.specs.Spells.{Spells, SpellsRow}
-use Rattle.pgw_tree.specs.Canonical.{Fits, FitsRow}
-use Rattle.pgw_tree.specs.Breaks.{Breaks}
+use Rattle.pgw_meta.specs.Shape.{Shape}
+use Rattle.pgw_cell.specs.Value.{Value}
+use Rattle.pgw_cell.specs.Cells.{Spells, Fits, Breaks}
+use Rattle.pgw_tree.specs.Spells.{SpellsRow}
+use Rattle.pgw_tree.specs.Canonical.{FitsRow}
 
 -- The first cells of a row spell these values, which fit.
 pub record SpellsFit (most : ℕ) (columns : List Shape) (cells : List Cell) (values : List Value) : Type 0 where

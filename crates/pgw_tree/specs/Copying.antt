@@ -5,7 +5,8 @@ use Rattle.pgw_wire.specs.Outside.{SourceState, Takes}
 use Rattle.pgw_copy.specs.Format.{IsRow}
 use Rattle.pgw_tree.specs.declared.fault.CopyFault.{CopyFault}
 use Rattle.pgw_tree.specs.declared.fault.CopyFault.TheVariants.{Truncated, ReadFault}
-use Rattle.pgw_tree.specs.Tree.{Shape, Value}
+use Rattle.pgw_meta.specs.Shape.{Shape}
+use Rattle.pgw_cell.specs.Value.{Value}
 use Rattle.pgw_tree.specs.Spells.{SpellsRow}
 use Rattle.pgw_tree.specs.Canonical.{FitsRow, canonical_front}
 use Rattle.pgw_tree.specs.Stream.{IsFront, IsWithin}

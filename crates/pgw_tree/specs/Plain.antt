@@ -1,29 +1,10 @@
 -- Rows whose bytes are the canonical ones of their values already, so that they may be written as they stand.
-use Rattle.std.specs.Prelude.{◌≡◌, ℕ, ◌≤◌, ◌++◌, List, [], ◌∷◌, length, Some}
+use Rattle.std.specs.Prelude.{◌≡◌, ℕ, ◌≤◌, ◌++◌, List, [], ◌∷◌, length}
 use Rattle.std.specs.Io.{StartsWith}
-use Rattle.pgw_wire.specs.Cell.{frame}
-use Rattle.pgw_copy.specs.Format.{IsField}
-use Rattle.pgw_tree.specs.Tree.{Shape, Value}
-use Rattle.pgw_tree.specs.Pieces.{SpellsPiece}
-use Rattle.pgw_tree.specs.Spells.{Spells}
-use Rattle.pgw_tree.specs.Canonical.{Fits, canonical_cell, canonical_row}
+use Rattle.pgw_meta.specs.Shape.{Shape}
+use Rattle.pgw_cell.specs.Value.{Value}
+use Rattle.pgw_tree.specs.Canonical.{canonical_row}
 use Rattle.pgw_tree.specs.Copying.{IsValuesRow}
-
--- Bytes are the field of a piece, which spells a value of the type and has at most so many bytes, and the rest.
-pub record IsPlainPieceBefore (most : ℕ) (t : Shape) (bytes rest : List ℕ) : Type 0 where
-  pub piece : List ℕ
-  pub value : Value
-  pub spells : SpellsPiece t piece value
-  pub fits : length piece ≤ most
-  pub is : bytes ≡ frame (Some piece) ++ rest
-
--- the canonical field of a value of the type, which fits
-pub record IsPlainField (most : ℕ) (t : Shape) (bytes : List ℕ) : Type 0 where
-  pub value : Value
-  pub spells : Spells t (canonical_cell t value) value
-  pub fits : Fits most t value
-  pub field : IsField (canonical_cell t value) bytes
-  pub is : bytes ≡ frame (canonical_cell t value)
 
 -- a row that spells these values, which fit, and is their canonical row
 pub record IsPlainRow (most : ℕ) (columns : List Shape) (bytes : List ℕ) (values : List Value) : Type 0 where

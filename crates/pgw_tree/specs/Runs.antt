@@ -1,11 +1,10 @@
 -- What the crate's own functions make of rows that stand whole in bytes, which a source shows before they are taken.
 use Rattle.std.specs.Prelude.{◌≡◌, ℕ, ◌+◌, ◌<◌, ◌≤◌, ◌++◌, ◌∷◌, List, length, take, Option, Some, None, Bool, true, false, ◌⊎◌, []}
 use Rattle.std.specs.List.{AllByRecursion, flat_map}
-use Rattle.pgw_copy.specs.Format.{AreFields, trailer}
-use Rattle.pgw_wire.specs.Cell.{Cell, frame}
-use Rattle.pgw_tree.specs.Tree.{Shape, Value}
-use Rattle.pgw_tree.specs.Columns.{SpellsFit}
-use Rattle.pgw_tree.specs.Canonical.{FitsRow, canonical_cells, canonical_row}
+use Rattle.pgw_copy.specs.Format.{trailer}
+use Rattle.pgw_meta.specs.Shape.{Shape}
+use Rattle.pgw_cell.specs.Value.{Value}
+use Rattle.pgw_tree.specs.Canonical.{FitsRow, canonical_row}
 use Rattle.pgw_tree.specs.Stream.{AreRows}
 use Rattle.pgw_tree.specs.Limits.{Limits}
 use Rattle.pgw_tree.specs.Plain.{ArePlainRows}
@@ -13,8 +12,8 @@ use Rattle.pgw_tree.specs.Causes.{WroteBehind, RowCause}
 use Rattle.pgw_tree.specs.declared.fault.CopyFault.{CopyFault}
 use Rattle.pgw_tree.specs.declared.fault.CopyFault.TheVariants.{ReadFault, WriteFault}
 use Rattle.pgw_tree.specs.Copying.{IsValuesRow}
-use Rattle.pgw_tree.specs.declared.shown.Copied.{Copied}
-use Rattle.pgw_tree.specs.declared.shown.Copied.TheVariants.{Whole, Broken}
+use Rattle.pgw_tree.specs.declared.shown.CopiedFront.{CopiedFront}
+use Rattle.pgw_tree.specs.declared.shown.CopiedFront.TheVariants.{Whole, Broken}
 
 -- So many rows, one behind the other, and their canonical form, whose fields fit.
 pub record AreRespelled (most : ℕ) (columns : List Shape) (many : ℕ) (canonical bytes : List ℕ) : Type 0 where
@@ -37,18 +36,6 @@ pub record EndsInRow (most : ℕ) (columns : List Shape) (rows : List (List Valu
   pub is : bytes ≡ front ++ row
   pub begun : length (flat_map (canonical_row columns) before) ≤ sent
   pub ends : sent < length (flat_map (canonical_row columns) before) + length (canonical_row columns last)
-
--- In front of the rest stands a field for each column, which spell values that fit, and the canonical fields of these
--- were appended to what a buffer had.
-pub record RespellsFields (most : ℕ) (columns : List Shape) (bytes rest old new : List ℕ) : Type 0 where
-  pub fields : List ℕ
-  pub cells : List Cell
-  pub values : List Value
-  pub each : AreFields cells fields
-  pub many : length cells ≡ length columns
-  pub first : SpellsFit most columns cells values
-  pub is : bytes ≡ fields ++ rest
-  pub appended : new ≡ old ++ flat_map frame (canonical_cells columns values)
 
 -- In front of the rest stands a row whose first cells spell values that fit, and their canonical row was appended.
 pub record RespellsRow (most : ℕ) (columns : List Shape) (bytes rest old new : List ℕ) : Type 0 where
@@ -102,17 +89,17 @@ shown_fault limits columns before Written fault bytes =
     ((fault ≡ ReadFault) × (bytes ≡ []) × Written [])
     ⊎ ((fault ≡ WriteFault) × IsBrokenRun limits columns before Written bytes)
 
-abbrev pub length_of : Copied → ℕ
+abbrev pub length_of : CopiedFront → ℕ
 length_of (Whole rows len) = len
 length_of (Broken len) = len
 
 -- how many rows there are, unless the sink failed
-abbrev pub rows_of : Copied → Option ℕ
+abbrev pub rows_of : CopiedFront → Option ℕ
 rows_of (Whole rows len) = Some rows
 rows_of (Broken len) = None
 
 -- what the copy of rows at the front of bytes did, which stands behind so many
-abbrev pub copied_says : Limits → List Shape → ℕ → (List ℕ → Type 0) → Type 0 → List ℕ → Copied → Type 0
+abbrev pub copied_says : Limits → List Shape → ℕ → (List ℕ → Type 0) → Type 0 → List ℕ → CopiedFront → Type 0
 copied_says limits columns before Written failed bytes (Whole rows len) =
     (len ≤ length bytes) × IsRun limits columns before rows Written (take len bytes)
 copied_says limits columns before Written failed bytes (Broken len) =

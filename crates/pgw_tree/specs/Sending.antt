@@ -2,11 +2,11 @@
 use Rattle.std.specs.Prelude.{◌≡◌, ℕ, ◌<◌, List, length}
 use Rattle.pgw_wire.specs.Cell.{Cell}
 use Rattle.pgw_wire.specs.declared.kind.Break.{Break}
-use Rattle.pgw_tree.specs.declared.cells.SendFault.{SendFault}
-use Rattle.pgw_tree.specs.declared.cells.SendFault.TheVariants.{TooFew, BadValue, TooLong, WriteFault, NoMemory}
+use Rattle.pgw_tree.specs.declared.send_fault.SendFault.{SendFault}
+use Rattle.pgw_tree.specs.declared.send_fault.SendFault.TheVariants.{TooFew, BadValue, TooLong, WriteFault, NoMemory}
 use Rattle.pgw_tree.specs.declared.fault.CopyFault.{CopyFault}
 use Rattle.pgw_tree.specs.declared.fault.CopyFault.TheVariants.{UnexpectedEndOfRow, BadValue as bad_value, TooLong as too_long, WriteFault as write_fault, NoMemory as no_memory}
-use Rattle.pgw_tree.specs.Tree.{Shape}
+use Rattle.pgw_meta.specs.Shape.{Shape}
 use Rattle.pgw_tree.specs.Columns.{BreaksAt, IsLongAt}
 
 -- Where the sink failed, Broken is so.

@@ -78,3 +78,13 @@ impl From<Failed> for CopyFault {
         CopyFault::WriteFault
     }
 }
+
+impl From<NoMemoryLeft> for CopyFault {
+    ghost use Rattle.pgw_tree.specs.declared.fault.CopyFault.TheVariants.{NoMemory as no_memory};
+
+    ghost from_gives = { λ _ f. f ≡ no_memory };
+
+    fn from(_: NoMemoryLeft) -> CopyFault {
+        CopyFault::NoMemory
+    }
+}

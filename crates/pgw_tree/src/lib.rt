@@ -1,25 +1,27 @@
-//! COPY streams by the types of their columns: a stream in, and the canonical stream of the same rows out.
+//! COPY streams by the types of their columns: a stream in, and the canonical stream of the same rows out. What cells of
+//! a type are read and written as stands in `pgw_cell`, whose calls and laws are found here too.
 #![tactic(auto)]
 
-mod cells;
+mod columns;
 #[cfg(test)]
 mod copy_tests;
 mod fault;
 mod fields;
-pub mod laws;
 mod limits;
-mod list;
 mod next_row;
 mod plain;
-mod recopy;
 mod respell;
+mod rewrite;
+mod send_fault;
 mod shown;
+mod stream;
 #[cfg(test)]
 mod tests;
-mod types;
 
 pub use fault::CopyFault;
 pub use limits::{FIELD_MAX, Limits};
-pub use list::FirstList;
-pub use recopy::recopy_first;
-pub use types::FirstType;
+pub use pgw_cell::{
+    ByteList, CellFault, Datum, MeasureFault, WriteCellFault, laws, measure_cell, read_cell,
+    rewrite_cell, write_cell,
+};
+pub use stream::{Copied, recopy};

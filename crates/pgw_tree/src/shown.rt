@@ -1,32 +1,35 @@
 ghost use Rattle.std.specs.Prelude.{◌≡◌, ◌<◌, ◌≤◌, ◌^◌, ◌+◌, ◌⊎◌, List, [], ℕ, length, take, Some, IfSome, IsNone, Ok, Err, IfErr};
 ghost use Rattle.pgw_wire.specs.Outside.{HasFailed, Wrote};
 ghost use Rattle.pgw_tree.specs.Copying.{Copies};
-ghost use Rattle.pgw_tree.specs.Tree.{Shape, Value, shapes};
+ghost use Rattle.pgw_meta.specs.Shape.{Shape};
+ghost use Rattle.pgw_meta.specs.Types.{column_shapes};
+ghost use Rattle.pgw_cell.specs.Value.{Value};
 ghost use Rattle.pgw_tree.specs.Runs.{AreRespelled, EndsInRow, IsRun, shown_fault, copied_says, length_of, rows_of};
 
+use crate::columns::Columns;
 use crate::fields::behind_row;
 use crate::plain::plain_rows;
 use crate::respell::respell_rows;
-use crate::{CopyFault, FirstType, Limits};
+use crate::{CopyFault, Limits};
 use pgw_wire::{ByteBuffer, Sink, Source, Taker, send};
 use std::alloc::Global;
 
 /// What came of copying rows at the front of bytes.
 #[derive(Drop)]
-pub(crate) enum Copied {
+pub(crate) enum CopiedFront {
     /// There are so many rows now, and the last of them ends behind so many bytes.
     Whole { rows: u64, len: usize },
     /// The sink failed in the row that ends behind so many bytes.
     Broken { len: usize },
 }
 
-impl Copied {
+impl CopiedFront {
     /// Behind how many bytes the last of the rows ends.
     fn len(&self) -> usize
         ensures { result ≡ length_of self.now }
     {
         match self {
-            Copied::Whole { len, .. } | Copied::Broken { len } => *len,
+            CopiedFront::Whole { len, .. } | CopiedFront::Broken { len } => *len,
         }
     }
 
@@ -35,8 +38,8 @@ impl Copied {
         ensures { result ≡ rows_of self.now }
     {
         match self {
-            Copied::Whole { rows, .. } => Some(*rows),
-            Copied::Broken { .. } => None,
+            CopiedFront::Whole { rows, .. } => Some(*rows),
+            CopiedFront::Broken { .. } => None,
         }
     }
 }
@@ -64,27 +67,27 @@ fn row_end_behind(canonical: &[u8], run: &[u8], sent: usize) -> usize
 
 /// Copies so many rows by sending their canonical form in one piece. So many rows were copied before.
 fn send_rows<K: Sink>(
-    columns: &[FirstType],
+    columns: &Columns<'_>,
     limits: Limits,
     before: u64,
     many: u64,
     canonical: &[u8],
     run: &[u8],
     sink: &mut K,
-) -> Copied
-    requires rows { AreRespelled limits.field_max (shapes columns.now) many canonical.now run.now }
+) -> CopiedFront
+    requires rows { AreRespelled limits.field_max (column_shapes columns.now.types.now) many canonical.now run.now }
     requires allowed { before + many ≤ limits.rows_max }
-    ensures copied { copied_says limits (shapes columns.now) before
+    ensures copied { copied_says limits (column_shapes columns.now.types.now) before
         (Wrote (K.state sink.old) (K.state sink.new)) (HasFailed (K.state sink.old) (K.state sink.new)) run.now result }
-    ensures more { (rows len : ℕ) → result ≡ Copied.Whole rows len → rows ≡ before + many }
+    ensures more { (rows len : ℕ) → result ≡ CopiedFront.Whole rows len → rows ≡ before + many }
 {
     let sent = send(sink, canonical);
     if sent < canonical.len() {
-        Copied::Broken {
+        CopiedFront::Broken {
             len: row_end_behind(canonical, run, sent),
         }
     } else {
-        Copied::Whole {
+        CopiedFront::Whole {
             rows: before + many,
             len: run.len(),
         }
@@ -95,18 +98,17 @@ fn send_rows<K: Sink>(
 /// canonical form is made in the buffer. None, and the sink is left alone, where neither stand there, or where memory is
 /// refused. So many rows were copied before.
 fn copy_front<K: Sink>(
-    columns: &[FirstType],
+    columns: &Columns<'_>,
     limits: Limits,
     before: u64,
     bytes: &[u8],
     buffer: &mut ByteBuffer,
     sink: &mut K,
-) -> Option<Copied>
-    requires few { length columns.now < 2 ^ 15 }
+) -> Option<CopiedFront>
     requires allowed { before < limits.rows_max }
-    ensures copied { IfSome result (copied_says limits (shapes columns.now) before
+    ensures copied { IfSome result (copied_says limits (column_shapes columns.now.types.now) before
         (Wrote (K.state sink.old) (K.state sink.new)) (HasFailed (K.state sink.old) (K.state sink.new)) bytes.now) }
-    ensures more { (rows len : ℕ) → result ≡ Some (Copied.Whole rows len) → before < rows }
+    ensures more { (rows len : ℕ) → result ≡ Some (CopiedFront.Whole rows len) → before < rows }
     ensures none { IsNone result → sink.new ≡ sink.old }
 {
     let most = limits.rows_max() - before;
@@ -134,16 +136,15 @@ fn copy_front<K: Sink>(
 
 /// Copies rows at the front, as long as each stands there whole, up to the limit on rows. So many rows were copied before.
 fn copy_rows<K: Sink>(
-    columns: &[FirstType],
+    columns: &Columns<'_>,
     limits: Limits,
     before: u64,
     bytes: &[u8],
     buffer: &mut ByteBuffer,
     sink: &mut K,
-) -> Copied
-    requires few { length columns.now < 2 ^ 15 }
+) -> CopiedFront
     requires allowed { before ≤ limits.rows_max }
-    ensures copied { copied_says limits (shapes columns.now) before
+    ensures copied { copied_says limits (column_shapes columns.now.types.now) before
         (Wrote (K.state sink.old) (K.state sink.new)) (HasFailed (K.state sink.old) (K.state sink.new)) bytes.now result }
 {
     let mut rows = before;
@@ -152,7 +153,7 @@ fn copy_rows<K: Sink>(
         match copy_front(columns, limits, rows, &bytes[len..], buffer, sink) {
             None => break,
             Some(
-                Copied::Whole {
+                CopiedFront::Whole {
                     rows: now,
                     len: more,
                 },
@@ -160,28 +161,29 @@ fn copy_rows<K: Sink>(
                 rows = now;
                 len += more;
             }
-            Some(Copied::Broken { len: last }) => return Copied::Broken { len: len + last },
+            Some(CopiedFront::Broken { len: last }) => return CopiedFront::Broken {
+                len: len + last,
+            },
         }
     }
-    Copied::Whole { rows, len }
+    CopiedFront::Whole { rows, len }
 }
 
 /// Copies the rows that stand whole in what a source shows. So many rows were copied before.
 #[derive(Drop)]
 struct RowTaker<'a> {
-    columns: &'a [FirstType],
+    columns: &'a Columns<'a>,
     limits: Limits,
     before: u64,
     buffer: ByteBuffer,
-    copied: Copied,
-    ghost few: { length columns.now < 2 ^ 15 },
+    copied: CopiedFront,
     ghost allowed: { before ≤ limits.rows_max },
 }
 
 impl<K: Sink> Taker<K> for RowTaker<'_> {
     ghost takes = { λ taker sink ready n then_ sink_then.
         (n ≡ length_of then_.copied)
-        × copied_says taker.limits (shapes taker.columns.now) taker.before
+        × copied_says taker.limits (column_shapes taker.columns.now.types.now) taker.before
         (Wrote (K.state sink) (K.state sink_then)) (HasFailed (K.state sink) (K.state sink_then)) ready then_.copied };
 
     #[inline(always)]
@@ -202,17 +204,16 @@ impl<K: Sink> Taker<K> for RowTaker<'_> {
 /// before.
 pub(crate) fn copy_shown<S: Source, K: Sink>(
     alloc: Global,
-    columns: &[FirstType],
+    columns: &Columns<'_>,
     limits: Limits,
     before: u64,
     source: &mut S,
     sink: &mut K,
 ) -> Result<u64, CopyFault>
-    requires few { length columns.now < 2 ^ 15 }
     requires allowed { before ≤ limits.rows_max }
     ensures takes { Copies (S.state source.old) (S.state source.new) result
-        (λ rows. IsRun limits (shapes columns.now) before rows (Wrote (K.state sink.old) (K.state sink.new)))
-        (shown_fault limits (shapes columns.now) before (Wrote (K.state sink.old) (K.state sink.new))) }
+        (λ rows. IsRun limits (column_shapes columns.now.types.now) before rows (Wrote (K.state sink.old) (K.state sink.new)))
+        (shown_fault limits (column_shapes columns.now.types.now) before (Wrote (K.state sink.old) (K.state sink.new))) }
     ensures write_fault { result ≡ Err CopyFault.WriteFault → HasFailed (K.state sink.old) (K.state sink.new) }
 {
     let mut taker = RowTaker {
@@ -220,7 +221,7 @@ pub(crate) fn copy_shown<S: Source, K: Sink>(
         limits,
         before,
         buffer: ByteBuffer::new(alloc),
-        copied: Copied::Whole {
+        copied: CopiedFront::Whole {
             rows: before,
             len: 0,
         },

@@ -1,43 +1,99 @@
-ghost use Rattle.std.specs.Prelude.{◌≤◌, None, length};
+ghost use Rattle.std.specs.Prelude.{◌≡◌, None, IfOk};
+ghost use Rattle.pgw_meta.specs.Shape.{nullable};
+ghost use Rattle.pgw_meta.specs.Types.{shape, types_of, column_shapes};
+ghost use Rattle.pgw_cell.specs.Built.{IsBuilt};
+ghost use Rattle.pgw_tree.specs.ColumnTypes.{AreBuilt};
 
-use crate::{CopyFault, FirstList, FirstType, Limits, recopy_first};
-use pgw_wire::{Failed, MemorySink, QuietSource, Sink, Source};
+use crate::{CopyFault, Limits, recopy};
+use pgw_meta::{Dummy, PgType, Schema, TypeList};
+use pgw_wire::{Failed, MemorySink, MemorySource, NoMemory, QuietSource, Sink, Source};
 use std::alloc::Global;
+use std::test::Fail;
+
+/// At most so many rows, and canonical fields of at most so many bytes.
+fn limits_of(rows_max: u64, field_max: u32) -> Result<Limits, Fail> {
+    let Some(limits) = Limits::new(rows_max, field_max) else {
+        return Err(Fail::from("limits"));
+    };
+    Ok(limits)
+}
 
 #[test]
-fn fields_have_a_limit(rt: HostRuntime) {
-    let limits = Limits::new(7, 2147483647).expect(&rt, "limits");
-    assert_eq!(rt; limits.rows_max(), 7);
-    assert_eq!(rt; limits.field_max(), 2147483647);
+fn fields_have_a_limit(rt: HostRuntime) -> Result<(), Fail> {
+    let limits = limits_of(7, 2147483647)?;
+    assert!(rt; (limits.rows_max(), limits.field_max()) == (7, 2147483647));
     assert!(rt; Limits::new(7, 2147483648).is_none());
+    Ok(())
 }
 
-#[test]
-fn columns_are_listed(rt: HostRuntime) {
-    let mut columns = FirstList::new(rt.alloc());
-    columns.push(FirstType::Int4).expect(&rt, "memory");
-    columns.push(FirstType::TextNull).expect(&rt, "memory");
-    assert_eq!(rt; columns.len(), 2);
-    assert_eq!(rt; columns.get(1), Some(&FirstType::TextNull));
-    assert_eq!(rt; columns.get(2), None);
-    assert_eq!(rt;
-        columns.as_slice(),
-        [FirstType::Int4, FirstType::TextNull].as_slice()
-    );
+/// The type or null.
+fn or_null(alloc: Global, t: PgType) -> Result<PgType, NoMemory>
+    ensures { IfOk result (λ or_null. shape or_null ≡ nullable (shape t)) }
+{
+    Ok(PgType::Nullable(Box::new(alloc, t)?))
 }
 
-/// Copies, for the tests: what they learn of it is what they look at.
+/// Appends a column.
+fn add(columns: &mut TypeList, t: PgType) -> Result<(), NoMemory>
+    requires columns { AreBuilt (column_shapes (types_of columns.old)) }
+    requires column { IsBuilt (shape t) }
+    ensures { AreBuilt (column_shapes (types_of columns.new)) }
+{
+    columns.push(t)
+}
+
+/// The schema of these columns.
+fn schema_of(alloc: Global, columns: TypeList) -> Result<Schema, Fail>
+    requires { AreBuilt (column_shapes (types_of columns)) }
+    ensures { IfOk result (λ schema. AreBuilt (column_shapes schema)) }
+{
+    Ok(Schema::new(alloc, columns)?)
+}
+
+/// An int4, and a text or null.
+fn two_columns(alloc: Global) -> Result<Schema, Fail>
+    ensures { IfOk result (λ schema. AreBuilt (column_shapes schema)) }
+{
+    let mut columns = TypeList::new(alloc);
+    add(&mut columns, PgType::Int4)?;
+    add(&mut columns, or_null(alloc, PgType::Text)?)?;
+    schema_of(alloc, columns)
+}
+
+/// A bool, a "char", an oid, a bytea, and an int8 or null.
+fn five_columns(alloc: Global) -> Result<Schema, Fail>
+    ensures { IfOk result (λ schema. AreBuilt (column_shapes schema)) }
+{
+    let mut columns = TypeList::new(alloc);
+    add(&mut columns, PgType::Bool)?;
+    add(&mut columns, PgType::Char)?;
+    add(&mut columns, PgType::Oid)?;
+    add(&mut columns, PgType::Bytea)?;
+    add(&mut columns, or_null(alloc, PgType::Int8)?)?;
+    schema_of(alloc, columns)
+}
+
+/// An int4 or null.
+fn one_column(alloc: Global) -> Result<Schema, Fail>
+    ensures { IfOk result (λ schema. AreBuilt (column_shapes schema)) }
+{
+    let mut columns = TypeList::new(alloc);
+    add(&mut columns, or_null(alloc, PgType::Int4)?)?;
+    schema_of(alloc, columns)
+}
+
+/// Copies, for the tests, and answers how many rows and how many oids: what they learn of it is what they look at.
 fn copy<S: Source, K: Sink>(
     alloc: Global,
-    columns: &[FirstType],
+    schema: &Schema,
     source: &mut S,
     sink: &mut K,
     limits: Limits,
-) -> Result<u64, CopyFault>
-    requires some { 1 ≤ length columns.now }
-    requires few { length columns.now ≤ 32767 }
+) -> Result<(u64, usize), CopyFault>
+    requires { AreBuilt (column_shapes schema.now) }
 {
-    recopy_first(alloc, columns, source, sink, limits)
+    let copied = recopy(alloc, schema, &mut Dummy, source, sink, limits)?;
+    Ok((copied.rows, copied.oids.len()))
 }
 
 // a row of the number 42 and a null
@@ -45,14 +101,49 @@ const STREAM: &[u8] =
     b"PGCOPY\n\xff\r\n\0\0\0\0\0\0\0\0\0\0\x02\0\0\0\x04\0\0\0\x2a\xff\xff\xff\xff\xff\xff";
 
 #[test]
-fn stream_is_copied(rt: HostRuntime) {
+fn stream_is_copied(rt: HostRuntime) -> Result<(), Fail> {
     let alloc: Global = rt.alloc();
-    let mut source = QuietSource::new(STREAM.to_vec(alloc).expect(&rt, "memory"));
+    let schema = two_columns(alloc)?;
+    let mut source = QuietSource::new(STREAM.to_vec(alloc)?);
     let mut sink = MemorySink::new(alloc, Vec::new(alloc), Vec::new(alloc));
-    let columns = [FirstType::Int4, FirstType::TextNull];
-    let limits = Limits::new(1, 4).expect(&rt, "limits");
-    let copied = copy(alloc, &columns, &mut source, &mut sink, limits);
-    assert_eq!(rt; (copied, sink.gained()), (Ok(1), STREAM));
+    let copied = copy(alloc, &schema, &mut source, &mut sink, limits_of(1, 4)?);
+    assert!(rt; (copied, sink.gained()) == (Ok((1, 0)), STREAM));
+    Ok(())
+}
+
+// Two rows: of true, written as the bytes 2 and 9, the byte "A" with another behind it, the oid 7 with a byte behind it,
+// the bytes DE and AD, a null whose length is -2, and a field more; and of false, the byte 255, the greatest oid, no
+// byte, and a number.
+const LOOSE: &[u8] = b"PGCOPY\n\xff\r\n\0\0\0\0\0\0\0\0\0\
+    \0\x06\0\0\0\x02\x02\x09\0\0\0\x02AB\0\0\0\x05\0\0\0\x07\xff\0\0\0\x02\xde\xad\xff\xff\xff\xfe\0\0\0\x01x\
+    \0\x05\0\0\0\x01\0\0\0\0\x01\xff\0\0\0\x04\xff\xff\xff\xff\0\0\0\0\0\0\0\x08\x80\0\0\0\0\0\0\x01\xff\xff";
+
+// their canonical form
+const CANONICAL: &[u8] = b"PGCOPY\n\xff\r\n\0\0\0\0\0\0\0\0\0\
+    \0\x05\0\0\0\x01\x01\0\0\0\x01A\0\0\0\x04\0\0\0\x07\0\0\0\x02\xde\xad\xff\xff\xff\xff\
+    \0\x05\0\0\0\x01\0\0\0\0\x01\xff\0\0\0\x04\xff\xff\xff\xff\0\0\0\0\0\0\0\x08\x80\0\0\0\0\0\0\x01\xff\xff";
+
+/// What the rows of five columns are copied as from this source, and how many rows and oids there are.
+fn copy_five<S: Source>(
+    alloc: Global,
+    source: &mut S,
+) -> Result<(Result<(u64, usize), CopyFault>, MemorySink), Fail> {
+    let schema = five_columns(alloc)?;
+    let mut sink = MemorySink::new(alloc, Vec::new(alloc), Vec::new(alloc));
+    let copied = copy(alloc, &schema, source, &mut sink, limits_of(2, 8)?);
+    Ok((copied, sink))
+}
+
+// The one source shows the rows, and of the other each is read.
+#[test]
+fn rows_of_several_types_are_spelled_anew(rt: HostRuntime) -> Result<(), Fail> {
+    let alloc: Global = rt.alloc();
+    let (copied, sink) = copy_five(alloc, &mut QuietSource::new(LOOSE.to_vec(alloc)?))?;
+    assert!(rt; (copied, sink.gained()) == (Ok((2, 0)), CANONICAL));
+    let mut source = MemorySource::new(LOOSE.to_vec(alloc)?, Vec::new(alloc), Vec::new(alloc));
+    let (copied, sink) = copy_five(alloc, &mut source)?;
+    assert!(rt; (copied, sink.gained()) == (Ok((2, 0)), CANONICAL));
+    Ok(())
 }
 
 /// A sink that keeps how many bytes each write brought.
@@ -89,15 +180,15 @@ const MIXED: &[u8] = b"PGCOPY\n\xff\r\n\0\0\0\0\0\0\0\0\0\
 
 // The pieces are the header, the three rows, the three behind them, and the end.
 #[test]
-fn rows_that_are_shown_are_written_together(rt: HostRuntime) {
+fn rows_that_are_shown_are_written_together(rt: HostRuntime) -> Result<(), Fail> {
     let alloc: Global = rt.alloc();
-    let mut source = QuietSource::new(MIXED.to_vec(alloc).expect(&rt, "memory"));
+    let schema = one_column(alloc)?;
+    let mut source = QuietSource::new(MIXED.to_vec(alloc)?);
     let mut sink = Writes {
         lengths: Vec::new(alloc),
     };
-    let columns = [FirstType::Int4Null];
-    let limits = Limits::new(6, 4).expect(&rt, "limits");
-    let copied = copy(alloc, &columns, &mut source, &mut sink, limits);
+    let copied = copy(alloc, &schema, &mut source, &mut sink, limits_of(6, 4)?);
     let lengths = sink.lengths.as_slice();
-    assert_eq!(rt; (copied, lengths), (Ok(6), [19, 26, 22, 2].as_slice()));
+    assert!(rt; (copied, lengths) == (Ok((6, 0)), [19, 26, 22, 2].as_slice()));
+    Ok(())
 }

@@ -4,5 +4,5 @@ use Rattle.pgcopy.proofs.words.read_word.Goals as goal
 
 pub returns-then-is_some : goal.returns-then-is_some
 returns-then-is_some c = λ before seen.
-    let named = type_named c.args.word.now c.type_of.result c.type_of.ensures (sym c.is_some.ensures ∙ c.if-is_some.true) in
+    let named = type_named _ c.args.word.now c.type_of.result c.type_of.ensures (sym c.is_some.ensures ∙ c.if-is_some.true) in
     type_seen c.args.seen named.0 c.args.word.now before seen named.1

@@ -1,18 +1,21 @@
-use Rattle.std.proofs.Common.{◌≡◌, ◌++◌, ◌∷◌, [], List, length, take, get_or, sym, ap, ◌∙◌, subst, arith, append_assoc}
+use Rattle.std.proofs.Common.{◌≡◌, ◌<◌, ◌++◌, ◌∷◌, [], List, length, take, get_or, sym, ap, ◌∙◌, subst, arith, append_assoc}
 use Rattle.std.specs.Int.{to_be_bytes, w16}
-use Rattle.std.proofs.lemmas.List.{length-map, take_all}
-use Rattle.pgw_tree.specs.declared.types.FirstType.TheVariants.{Int4}
-use Rattle.pgw_tree.specs.Tree.{Shape, shape, shapes}
-use Rattle.pgw_tree.proofs.Prefixes.{shapes_more}
+use Rattle.std.proofs.lemmas.List.{length-map, take_all, take_more}
+use Rattle.pgw_meta.specs.Shape.{Shape, scalar, int4}
+use Rattle.pgw_meta.specs.Types.{shape, column_shapes}
+use Rattle.pgw_cell.specs.Plain.{plain_cell}
+use Rattle.pgw_tree.proofs.Prefixes.{plain_at}
 use Rattle.pgw_tree.proofs.PlainRows.{IsPlainFields, plain_more, plain_row}
 use Rattle.pgw_tree.proofs.plain.behind_plain_row.Goals as goal
 
 pub loop-place-preserved : goal.loop-place-preserved
 loop-place-preserved c =
-    let ts = c.args.columns.now in
+    let ts = column_shapes c.args.columns.now.types.now in
     let i = c.loop-place._place in
     let inv = c.loop-place.invariant in
-    let f = c.in_ok-rest.ensures.some in
+    let t = get_or ts i (scalar int4) in
+    let within : i < length ts = omega (arith, c.loop-place-test.true, ap length c.args.columns.now.each ∙ length-map ts plain_cell) in
+    let f = c.in_ok-rest.ensures t (plain_at c.args.columns.now.plain.now ts i _ (scalar int4) c.args.columns.now.each within) in
     let count = to_be_bytes w16 c.in_ok-count.count in
     let rest = c.in_ok-rest.rest.now in
     let values = inv.values ++ (f.1.value ∷ []) in
@@ -20,17 +23,19 @@ loop-place-preserved c =
     record {
       values = values;
       fields = fields;
-      plain = subst (λ (us : List Shape). IsPlainFields c.args.field_max us values fields) (sym (shapes_more ts i (omega arith)))
-          (plain_more c.args.field_max (shapes (take i ts)) inv.values inv.fields (shape (get_or ts i Int4)) f.0 inv.plain f.1);
+      plain = subst (λ (us : List Shape). IsPlainFields c.args.field_max us values fields) (sym (take_more ts i (scalar int4) within))
+          (plain_more c.args.field_max (take i ts) inv.values inv.fields t f.0 (omega (arith, c.requires.max)) inv.plain f.1);
       is = inv.is ∙ ap (λ r. count ++ (inv.fields ++ r)) f.2 ∙ ap (λ l. count ++ l) (sym (append_assoc inv.fields f.0 rest));
     }
 
 pub returns : goal.returns
 returns c =
-    let ts = c.args.columns.now in
+    let types = c.args.columns.now.types.now in
+    let ts = column_shapes types in
     let n = c.in_ok-count.count in
     let inv = c.loop-place.invariant in
-    let all : take c.loop-place._place ts ≡ ts = take_all c.loop-place._place ts (omega arith) in
-    let many : length (shapes ts) ≡ n = omega (arith, length-map ts shape, c.if-count-columns.false) in
-    let plain = subst (λ (us : List Shape). IsPlainFields c.args.field_max us inv.values inv.fields) (ap shapes all) inv.plain in
-    record { some = (to_be_bytes w16 n ++ inv.fields, inv.values, plain_row c.args.field_max (shapes ts) inv.values inv.fields n plain many (omega (arith, c.requires.few, c.if-count-columns.false)), inv.is) }
+    let known = ap length c.args.columns.now.each ∙ length-map ts plain_cell in
+    let all : take c.loop-place._place ts ≡ ts = take_all c.loop-place._place ts (omega (arith, c.loop-place-test.false, known)) in
+    let many : length ts ≡ n = omega (arith, known, c.if-count-columns.false) in
+    let plain = subst (λ (us : List Shape). IsPlainFields c.args.field_max us inv.values inv.fields) all inv.plain in
+    record { some = (to_be_bytes w16 n ++ inv.fields, inv.values, plain_row c.args.field_max ts inv.values inv.fields n plain many (omega (arith, many, length-map types shape, c.args.columns.now.few)), inv.is) }

@@ -1,5 +1,6 @@
 use Rattle.std.proofs.Common.{◌-◌, ◌≡◌, ◌≤◌, ◌++◌, List, ℕ, length}
-use Rattle.pgw_tree.specs.Tree.{Value, shapes}
+use Rattle.pgw_meta.specs.Types.{column_shapes}
+use Rattle.pgw_cell.specs.Value.{Value}
 use Rattle.pgw_tree.specs.Plain.{ArePlainRows}
 use Rattle.pgw_tree.proofs.plain.walk.Given as goal
 
@@ -10,7 +11,7 @@ invariant-loop-rows l = record {
   front : List ℕ;
   values : List (List Value);
   many : length values ≡ l.rows;
-  plain : ArePlainRows l.field_max (shapes l.columns) front values;
+  plain : ArePlainRows l.field_max (column_shapes l.columns.types.now) front values;
   is : l.fn.bytes ≡ front ++ l.rest;
 }
 

@@ -1,6 +1,6 @@
 use Rattle.std.proofs.Common.{◌+◌, ◌-◌, ◌≡◌, ◌++◌, ◌≤◌, List, ℕ}
 use Rattle.std.specs.Prelude.{if◌then◌else◌}
-use Rattle.pgw_tree.specs.Tree.{shapes}
+use Rattle.pgw_meta.specs.Types.{column_shapes}
 use Rattle.pgw_tree.specs.Runs.{AreRespelled}
 use Rattle.pgw_tree.proofs.respell.respell_rows.Given as goal
 
@@ -10,7 +10,7 @@ invariant-loop-goes_on l = record {
   limit : l.rows ≤ l.most;
   front : List ℕ;
   is : l.fn.bytes ≡ front ++ l.rest;
-  respelled : AreRespelled l.field_max (shapes l.columns) l.rows l.out.bytes front;
+  respelled : AreRespelled l.field_max (column_shapes l.columns.types.now) l.rows l.out.bytes front;
 }
 
 abbrev pub decreases-loop-goes_on : goal.decreases-loop-goes_on

@@ -1,5 +1,5 @@
 use Rattle.std.proofs.Common.{◌≡◌, ◌≤◌, ◌++◌, List, ℕ, length}
-use Rattle.pgw_tree.specs.Tree.{Shape}
+use Rattle.pgw_meta.specs.Shape.{Shape}
 use Rattle.pgw_tree.specs.Runs.{AreRespelled}
 use Rattle.pgw_tree.proofs.Runs.{AreSplit}
 use Rattle.pgw_tree.proofs.shown.row_end_behind.Given as goal

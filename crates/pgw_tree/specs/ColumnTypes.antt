@@ -1,0 +1,29 @@
+-- What is known of the types of columns whose rows are copied.
+use Rattle.std.specs.Prelude.{List, map}
+use Rattle.std.specs.List.{AllByRecursion, AllByRecursion-prop}
+use mathlib.Core.Bool.{Bool-set}
+use Rattle.pgw_meta.specs.Shape.{Shape, scalar, nullable, array, range, multirange, composite, named}
+use Rattle.pgw_cell.specs.Built.{IsBuilt}
+use Rattle.pgw_cell.specs.Plain.{plain_cell}
+use Rattle.pgw_cell.specs.declared.plain.PlainCell.{PlainCell}
+
+-- Rows of columns of these types can be copied.
+abbrev pub AreBuilt : List Shape → Type 0
+AreBuilt columns = AllByRecursion IsBuilt columns
+
+-- That has one proof at most, as what a struct keeps must.
+IsBuilt-prop : (t : Shape) → IsProp (IsBuilt t)
+IsBuilt-prop (scalar s) = Bool-set _ _
+IsBuilt-prop (nullable t) = IsBuilt-prop t
+IsBuilt-prop (array t) = λ x y. absurd x
+IsBuilt-prop (range t) = λ x y. absurd x
+IsBuilt-prop (multirange t) = λ x y. absurd x
+IsBuilt-prop (composite ts) = λ x y. absurd x
+IsBuilt-prop (named k t) = λ x y. absurd x
+
+pub AreBuilt-prop : (columns : List Shape) → IsProp (AreBuilt columns)
+AreBuilt-prop columns = AllByRecursion-prop IsBuilt IsBuilt-prop columns
+
+-- by what canonical fields of the columns are known
+abbrev pub plain_cells : List Shape → List PlainCell
+plain_cells columns = map plain_cell columns
