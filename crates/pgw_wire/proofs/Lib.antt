@@ -3,3 +3,4 @@ pub mod Numbers
 pub mod Taking
 pub mod Adding
 mod WorkedRefusals
+pub mod Lending

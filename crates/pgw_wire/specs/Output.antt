@@ -1,8 +1,9 @@
 -- What a call leaves of an output.
-use Rattle.std.specs.Borrow.{Lends, MutBor, Fml, RattleType}
+use Rattle.std.specs.Borrow.{Lends, follows_both, MutBor, Fml, RattleType}
 use Rattle.std.specs.Prelude.{◌≡◌, ◌≤◌, [], length, take}
 use Rattle.pgw_wire.specs.declared.output.Output.{Output}
 use Rattle.pgw_wire.specs.contracts.output.Output.{the_row}
+use Rattle.pgw_wire.specs.contracts.buffer.ByteBuffer.{the_row as buffer_row}
 use mir.Syntax.{named}
 
 -- It writes to the same buffer, asks the same lookup, and counts from the same place.
@@ -26,3 +27,13 @@ module _ (L : RattleType) where
   LendsLookup s r =
       Lends (the_row (record { mir = named 1; lft = [] }) L) L s r
       (λ lookup. record s.now { lookup = record s.now.lookup { now = lookup } })
+
+  -- The buffer and the lookup are lent, and what is then left in them is the output's. All else of it is as before.
+  abbrev pub LendsBoth : MutBor (Output L.Denot) → Output L.Denot → Fml
+  LendsBoth s r =
+      follows_both (the_row (record { mir = named 1; lft = [] }) L) buffer_row L
+      s.ghost_name r.out.ghost_name r.lookup.ghost_name
+      (λ out lookup. record s.now {
+        out = record s.now.out { now = out };
+        lookup = record s.now.lookup { now = lookup };
+      })

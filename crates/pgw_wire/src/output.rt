@@ -1,7 +1,7 @@
-ghost use Rattle.std.specs.Prelude.{◌≡◌, ◌+◌, ◌-◌, ◌≤◌, ◌++◌, length, take, OnOk, OnErr};
+ghost use Rattle.std.specs.Prelude.{◌≡◌, ◌+◌, ◌-◌, ◌≤◌, [], ◌++◌, length, take, OnOk, OnErr};
 ghost use Rattle.std.specs.Borrow.{sem};
 ghost use Rattle.std.specs.Int.{to_be_bytes, w32};
-ghost use Rattle.pgw_wire.specs.Output.{IsSameOutput, LendsLookup, KeepsFront};
+ghost use Rattle.pgw_wire.specs.Output.{IsSameOutput, LendsLookup, LendsBoth, KeepsFront};
 ghost use Rattle.pgw_wire.specs.Room.{overwritten};
 
 use crate::{ByteBuffer, NoMemory};
@@ -55,17 +55,12 @@ impl<'a, L> Output<'a, L> {
 
     /// An output to the same buffer that asks the same lookup, and counts places from where the buffer ends now.
     pub fn reborrow(&mut self) -> Output<'_, L>
+        ensures* writes_back { sem 𝓛 (LendsBoth L.row self.entry result) }
         ensures buffer { result.out.now ≡ self.old.out.now }
         ensures lookup { result.lookup.now ≡ self.old.lookup.now }
         ensures start { result.start ≡ length self.old.out.now.bytes }
     {
-        let start = self.out.len();
-        let Output {
-            out,
-            lookup,
-            start: _,
-        } = self;
-        Output { out, lookup, start }
+        Output::new(&mut *self.out, &mut *self.lookup)
     }
 
     /// Appends the piece. Where memory is refused, the buffer is as before.
@@ -113,4 +108,22 @@ impl<'a, L> Output<'a, L> {
         let len = self.out.len();
         self.out.truncate((self.start + written).min(len));
     }
+}
+
+/// Drops all bytes of the buffer, and lets the output go.
+fn clear<L>(out: Output<'_, L>)
+    ensures buffer { out.exit.0.now.bytes ≡ [] }
+    ensures lookup { out.exit.1.0.now ≡ out.entry.lookup.now }
+{
+    out.out.clear();
+}
+
+/// What a caller of `reborrow` knows: the outer output has the buffer and the lookup as the inner one left them, and
+/// its start and both references are as before.
+fn clear_within<L>(outer: &mut Output<'_, L>)
+    ensures wrote { outer.new.out.now.bytes ≡ [] }
+    ensures lookup { outer.new.lookup.now ≡ outer.old.lookup.now }
+    ensures same { IsSameOutput outer.old outer.new }
+{
+    clear(outer.reborrow());
 }
