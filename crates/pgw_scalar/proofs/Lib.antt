@@ -4,5 +4,7 @@ pub mod Whole
 pub mod LeadingFields
 pub mod Bytea
 pub mod TextFields
+pub mod NetworkFields
 pub mod WorkedFields
 pub mod Excluded
+pub mod NetworkAnswers

@@ -1,18 +1,20 @@
 -- What the definitions of fields say of single pieces: of which value a piece is, and of which it is none.
-use Rattle.std.proofs.Common.{◌≡◌, ℕ, ℤ, pos, negsuc, Bool, true, false, List, [], ◌∷◌, length, get_or, Ok, refl, sym, ap, subst, arith, lit<}
+use Rattle.std.proofs.Common.{◌≡◌, ℕ, ℤ, pos, negsuc, Bool, true, false, List, [], ◌∷◌, length, get_or, inl, inr, Ok, Err, refl, sym, ap, subst, arith, lit<}
 use Rattle.std.specs.Int.{w16, w32, w64}
 use Rattle.std.specs.Str.{IsUtf8, chars, is_utf8}
 use Rattle.std.proofs.lemmas.Str.{is_utf8-from_IsUtf8}
 use Rattle.std.proofs.lemmas.Bool.{false≢true}
 use lib.Utf8.{encode}
-use Rattle.pgw_wire.specs.declared.kind.Break.TheVariants.{Size, Utf8}
+use Rattle.pgw_wire.specs.declared.kind.Break.TheVariants.{Size, Utf8, Family, Prefix}
 use Rattle.pgw_wire.specs.declared.sql_error.SqlError.TheVariants as error
+use Rattle.pgw_wire.specs.declared.sql_error.NetworkFault.TheVariants as fault
 use Rattle.pgw_scalar.specs.Sized.{IsSized, BreaksSized}
 use Rattle.pgw_scalar.specs.Whole.{IsSigned, IsUnsigned, signed_bytes}
 use Rattle.pgw_scalar.specs.Leading.{IsBool, bool_bytes, IsChar, char_bytes, BreaksEmpty, IsOid, oid_bytes, BreaksShort, read_bool, read_char, read_oid}
 use Rattle.pgw_scalar.specs.Bytea.{IsBytea}
 use Rattle.pgw_scalar.specs.Text.{IsText, BreaksText, read_text}
-use Rattle.pgw_scalar.specs.Refusals.{RefusesSize, RefusesUuid, RefusesMac, RefusesEmpty, RefusesShort, RefusesText}
+use Rattle.pgw_scalar.specs.Networks.{Network, network_bytes, IsNetwork, BreaksNetwork, read_network}
+use Rattle.pgw_scalar.specs.Refusals.{RefusesNetwork, RefusesSize, RefusesUuid, RefusesMac, RefusesEmpty, RefusesShort, RefusesText}
 
 -- int2: 1, and -1 in two's complement
 pub int2_1 : IsSigned w16 (0 ∷ 1 ∷ []) (pos 1)
@@ -192,3 +194,57 @@ four_are_no_uuid bytes h = omega (arith, ap length h.is, h.many)
 
 pub boom_refused : RefusesUuid (98 ∷ 111 ∷ 111 ∷ 109 ∷ []) (error.UuidLength 4)
 boom_refused = (λ e. omega (arith, e), refl)
+
+-- inet and cidr: 127.0.0.1/32 as an inet, which is no cidr, and a cidr of 192.168.0.1/24, whose last bit stays set
+abbrev pub loopback : Network
+loopback = record { six = false; prefix = 32; address = 127 ∷ 0 ∷ 0 ∷ 1 ∷ [] }
+
+pub inet_written : network_bytes 0 loopback ≡ 2 ∷ 32 ∷ 0 ∷ 4 ∷ 127 ∷ 0 ∷ 0 ∷ 1 ∷ []
+inet_written = refl
+
+pub cidr_written : network_bytes 1 loopback ≡ 2 ∷ 32 ∷ 1 ∷ 4 ∷ 127 ∷ 0 ∷ 0 ∷ 1 ∷ []
+cidr_written = refl
+
+pub inet_is : IsNetwork 0 (2 ∷ 32 ∷ 0 ∷ 4 ∷ 127 ∷ 0 ∷ 0 ∷ 1 ∷ []) loopback
+inet_is = record { laid_out = record { many = refl; bytes = refl }; fits = lit< tt }
+
+pub inet_is_no_cidr : (n : Network) → IsNetwork 1 (2 ∷ 32 ∷ 0 ∷ 4 ∷ 127 ∷ 0 ∷ 0 ∷ 1 ∷ []) n → ⊥
+inet_is_no_cidr n h = omega (arith, ap (λ l. get_or l 2 0) h.laid_out.bytes)
+
+pub bit_stays : read_network 1 (2 ∷ 24 ∷ 1 ∷ 4 ∷ 192 ∷ 168 ∷ 0 ∷ 1 ∷ []) ≡ Ok (record { six = false; prefix = 24; address = 192 ∷ 168 ∷ 0 ∷ 1 ∷ [] })
+bit_stays = refl
+
+-- ::1/64, of IPv6
+abbrev pub loopback6 : List ℕ
+loopback6 = 0 ∷ 0 ∷ 0 ∷ 0 ∷ 0 ∷ 0 ∷ 0 ∷ 0 ∷ 0 ∷ 0 ∷ 0 ∷ 0 ∷ 0 ∷ 0 ∷ 0 ∷ 1 ∷ []
+
+pub inet6_is : IsNetwork 0 (3 ∷ 64 ∷ 0 ∷ 16 ∷ loopback6) (record { six = true; prefix = 64; address = loopback6 })
+inet6_is = record { laid_out = record { many = refl; bytes = refl }; fits = lit< tt }
+
+-- a prefix of 33 bits, the byte of the other type, an address length of 5, and a family that is none
+pub long_prefix_breaks : BreaksNetwork 0 Prefix (2 ∷ 33 ∷ 0 ∷ 4 ∷ 127 ∷ 0 ∷ 0 ∷ 1 ∷ [])
+long_prefix_breaks = inl (refl, (record { six = false; prefix = 33; address = 127 ∷ 0 ∷ 0 ∷ 1 ∷ [] }, record { many = refl; bytes = refl }, lit< tt))
+
+pub long_prefix_refused : RefusesNetwork 0 (2 ∷ 33 ∷ 0 ∷ 4 ∷ 127 ∷ 0 ∷ 0 ∷ 1 ∷ []) (error.BadPrefix 33)
+long_prefix_refused = refl
+
+pub other_type_breaks : BreaksNetwork 1 Family (2 ∷ 32 ∷ 0 ∷ 4 ∷ 127 ∷ 0 ∷ 0 ∷ 1 ∷ [])
+other_type_breaks = inr (refl, λ n h. omega (arith, ap (λ l. get_or l 2 0) h.bytes))
+
+pub other_type_refused : RefusesNetwork 1 (2 ∷ 32 ∷ 0 ∷ 4 ∷ 127 ∷ 0 ∷ 0 ∷ 1 ∷ []) (error.Network fault.WrongType)
+other_type_refused = refl
+
+pub stated_length_refused : RefusesNetwork 0 (2 ∷ 33 ∷ 0 ∷ 5 ∷ 127 ∷ 0 ∷ 0 ∷ 1 ∷ []) (error.Network fault.WrongAddressLength)
+stated_length_refused = refl
+
+pub length_refused : RefusesNetwork 0 (2 ∷ 33 ∷ 0 ∷ 5 ∷ 127 ∷ 0 ∷ 0 ∷ 1 ∷ 0 ∷ []) (error.Network fault.WrongLength)
+length_refused = refl
+
+pub family_7_refused : RefusesNetwork 0 (7 ∷ 33 ∷ 0 ∷ 4 ∷ 127 ∷ 0 ∷ 0 ∷ 1 ∷ []) (error.Network fault.WrongFamily)
+family_7_refused = refl
+
+pub family_7_breaks : read_network 0 (7 ∷ 33 ∷ 0 ∷ 4 ∷ 127 ∷ 0 ∷ 0 ∷ 1 ∷ []) ≡ Err Family
+family_7_breaks = refl
+
+pub three_are_no_network : RefusesNetwork 0 (7 ∷ 2 ∷ 0 ∷ []) (error.Network fault.TooShort)
+three_are_no_network = refl

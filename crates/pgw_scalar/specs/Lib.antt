@@ -3,4 +3,6 @@ pub mod Whole
 pub mod Leading
 pub mod Bytea
 pub mod Text
+pub mod Networks
+pub mod IpNetworks
 pub mod Refusals

@@ -2,8 +2,8 @@ ghost use Rattle.std.specs.Prelude.{None, codes};
 ghost use Rattle.pgw_meta.specs.Naming.{built_in, looked_up_by};
 
 use crate::sql_types::{
-    BigInt, Binary, Bool, CChar, Citext, Integer, MacAddr, MacAddr8, Money, Oid, PgLsn, SmallInt,
-    Text, Uuid,
+    BigInt, Binary, Bool, CChar, Cidr, Citext, Inet, Integer, MacAddr, MacAddr8, Money, Oid, PgLsn,
+    SmallInt, Text, Uuid,
 };
 use pgw_meta::{HasSqlType, LookupError, Pg, PgMetadataLookup, PgTypeMetadata};
 use std::alloc::Global;
@@ -173,5 +173,29 @@ impl HasSqlType<MacAddr8> for Pg {
         _lookup: &mut L,
     ) -> Result<PgTypeMetadata, LookupError> {
         Ok(PgTypeMetadata::new(774, 775))
+    }
+}
+
+impl HasSqlType<Inet> for Pg {
+    ghost names = { built_in 869 1041 };
+
+    /// The oids of `inet` and of its arrays. It takes no memory.
+    fn metadata<L: PgMetadataLookup>(
+        _alloc: Global,
+        _lookup: &mut L,
+    ) -> Result<PgTypeMetadata, LookupError> {
+        Ok(PgTypeMetadata::new(869, 1041))
+    }
+}
+
+impl HasSqlType<Cidr> for Pg {
+    ghost names = { built_in 650 651 };
+
+    /// The oids of `cidr` and of its arrays. It takes no memory.
+    fn metadata<L: PgMetadataLookup>(
+        _alloc: Global,
+        _lookup: &mut L,
+    ) -> Result<PgTypeMetadata, LookupError> {
+        Ok(PgTypeMetadata::new(650, 651))
     }
 }

@@ -194,3 +194,23 @@ impl SingleValue for MacAddr8 {}
 
 /// `MacAddr8` by PostgreSQL's name.
 pub type Macaddr8 = MacAddr8;
+
+/// `inet`, an address of IPv4 or IPv6 with the length of its prefix.
+#[derive(Debug, Clone, Copy, Default)]
+pub struct Inet;
+
+impl SqlType for Inet {}
+
+impl NotNull for Inet {}
+
+impl SingleValue for Inet {}
+
+/// `cidr`, a network of IPv4 or IPv6: an address with the length of its prefix.
+#[derive(Debug, Clone, Copy, Default)]
+pub struct Cidr;
+
+impl SqlType for Cidr {}
+
+impl NotNull for Cidr {}
+
+impl SingleValue for Cidr {}

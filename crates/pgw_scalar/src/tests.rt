@@ -1,13 +1,15 @@
 use crate::sql_types::{
-    BigInt, Binary, Bool, Bytea, CChar, Citext, Int8, Integer, MacAddr, MacAddr8, Money, Oid,
-    PgLsn as LsnType, SmallInt, Text, Uuid as UuidType,
+    BigInt, Binary, Bool, Bytea, CChar, Cidr, Citext, Inet, Int8, Integer, MacAddr, MacAddr8,
+    Money, Oid, PgLsn as LsnType, SmallInt, Text, Uuid as UuidType,
 };
-use crate::{BytesRef, Cents, PgLsn, PgMoney, TextRef};
+use crate::{
+    BytesRef, Cents, IpNetwork, Ipv4Network, Ipv6Network, PgLsn, PgMoney, PrefixError, TextRef,
+};
 use pgw_meta::{
     Dummy, FromSql, FromSqlRef, HasSqlType, Pg, PgTypeMetadata, RangeElement, ToSql, deserialize,
     serialize,
 };
-use pgw_wire::{ByteBuffer, IsNull, Output, PgValue, SqlError};
+use pgw_wire::{ByteBuffer, IsNull, NetworkFault, Output, PgValue, SqlError};
 use std::alloc::Global;
 use std::borrow::{CowSlice, CowStr};
 use std::num::NonZeroU32;
@@ -148,6 +150,111 @@ fn addresses_and_uuids_are_their_bytes(rt: HostRuntime) {
     assert!(rt; refused == errors);
 }
 
+const LOOPBACK: [u8; 4] = [127, 0, 0, 1];
+
+const LOOPBACK6: [u8; 16] = [0, 0, 0, 0, 0, 0, 0, 0, 0, 0, 0, 0, 0, 0, 0, 1];
+
+const FIELD6: [u8; 20] = *b"\x03\x40\0\x10\0\0\0\0\0\0\0\0\0\0\0\0\0\0\0\x01";
+
+fn four(ip: [u8; 4], prefix: u8) -> Result<IpNetwork, PrefixError> {
+    Ok(IpNetwork::V4(Ipv4Network::new(ip, prefix)?))
+}
+
+fn six(ip: [u8; 16], prefix: u8) -> Result<IpNetwork, PrefixError> {
+    Ok(IpNetwork::V6(Ipv6Network::new(ip, prefix)?))
+}
+
+#[test]
+fn networks_are_written(rt: HostRuntime) -> Result<(), Fail> {
+    let mut buffer = ByteBuffer::new(rt.alloc());
+    let written = [
+        write::<Inet, IpNetwork>(&mut buffer, four(LOOPBACK, 32)?),
+        write::<Cidr, IpNetwork>(&mut buffer, four(LOOPBACK, 32)?),
+        write::<Cidr, IpNetwork>(&mut buffer, four([192, 168, 0, 1], 24)?),
+        write::<Inet, IpNetwork>(&mut buffer, six(LOOPBACK6, 64)?),
+    ];
+    assert!(rt; written == [true; 4]);
+    let bytes = b"\x02\x20\0\x04\x7f\0\0\x01\
+        \x02\x20\x01\x04\x7f\0\0\x01\
+        \x02\x18\x01\x04\xc0\xa8\0\x01\
+        \x03\x40\0\x10\0\0\0\0\0\0\0\0\0\0\0\0\0\0\0\x01";
+    assert!(rt; buffer.as_bytes() == bytes.as_slice());
+    Ok(())
+}
+
+#[test]
+fn networks_are_read(rt: HostRuntime) -> Result<(), Fail> {
+    let alloc = rt.alloc();
+    let values = (
+        read::<Inet, IpNetwork>(alloc, b"\x02\x20\0\x04\x7f\0\0\x01"),
+        read::<Cidr, IpNetwork>(alloc, b"\x02\x20\x01\x04\x7f\0\0\x01"),
+        read::<Cidr, IpNetwork>(alloc, b"\x02\x18\x01\x04\xc0\xa8\0\x01"),
+        read::<Inet, IpNetwork>(alloc, b"\x02\0\0\x04\x7f\0\0\x01"),
+        read::<Inet, IpNetwork>(alloc, &FIELD6),
+    );
+    let networks = (
+        Ok(four(LOOPBACK, 32)?),
+        Ok(four(LOOPBACK, 32)?),
+        Ok(four([192, 168, 0, 1], 24)?),
+        Ok(four(LOOPBACK, 0)?),
+        Ok(six(LOOPBACK6, 64)?),
+    );
+    assert!(rt; values == networks);
+    Ok(())
+}
+
+const FAULTS: [(&[u8], SqlError); 7] = [
+    (b"\x07\x02\0", SqlError::Network(NetworkFault::TooShort)),
+    (
+        b"\x02\x20\x01\x04\x7f\0\0\x01",
+        SqlError::Network(NetworkFault::WrongType),
+    ),
+    (
+        b"\x02\x21\0\x05\x7f\0\0\x01\0",
+        SqlError::Network(NetworkFault::WrongLength),
+    ),
+    (
+        b"\x02\x21\0\x05\x7f\0\0\x01",
+        SqlError::Network(NetworkFault::WrongAddressLength),
+    ),
+    (b"\x02\x21\0\x04\x7f\0\0\x01", SqlError::BadPrefix(33)),
+    (
+        b"\x03\x81\0\x10\0\0\0\0\0\0\0\0\0\0\0\0\0\0\0\x01",
+        SqlError::BadPrefix(129),
+    ),
+    (
+        b"\x07\x20\0\x04\x7f\0\0\x01",
+        SqlError::Network(NetworkFault::WrongFamily),
+    ),
+];
+
+#[test]
+fn the_first_fault_of_a_network_is_told(rt: HostRuntime) {
+    let alloc = rt.alloc();
+    for (bytes, error) in &FAULTS {
+        assert!(rt; read::<Inet, IpNetwork>(alloc, bytes) == Err(*error));
+    }
+    let inet = read::<Cidr, IpNetwork>(alloc, b"\x02\x20\0\x04\x7f\0\0\x01");
+    assert!(rt; inet == Err(SqlError::Network(NetworkFault::WrongType)));
+}
+
+#[test]
+fn prefixes_are_no_longer_than_the_address(rt: HostRuntime) -> Result<(), Fail> {
+    let alloc = rt.alloc();
+    let short = Ipv4Network::new(LOOPBACK, 32)?;
+    assert!(rt; (short.ip(), short.prefix()) == (LOOPBACK, 32));
+    let long = Ipv6Network::new(LOOPBACK6, 128)?;
+    assert!(rt; (long.ip(), long.prefix()) == (LOOPBACK6, 128));
+    let past = (
+        Ipv4Network::new(LOOPBACK, 33),
+        Ipv6Network::new(LOOPBACK6, 129),
+    );
+    assert!(rt; past == (Err(PrefixError), Err(PrefixError)));
+    let text = PrefixError.to_string(alloc)?;
+    assert_eq!(rt; text.as_str(), "the prefix is longer than the address");
+    Ok(())
+}
+
 #[test]
 fn texts_and_bytes_are_read(rt: HostRuntime) -> Result<(), Fail> {
     let alloc = rt.alloc();
@@ -228,8 +335,10 @@ fn types_have_the_oids_of_the_catalog(rt: HostRuntime) {
         has_oids::<LsnType>(alloc, 3220, 3221),
         has_oids::<MacAddr>(alloc, 829, 1040),
         has_oids::<MacAddr8>(alloc, 774, 775),
+        has_oids::<Inet>(alloc, 869, 1041),
+        has_oids::<Cidr>(alloc, 650, 651),
     ];
-    assert!(rt; known == [true; 13]);
+    assert!(rt; known == [true; 15]);
     let ranges = [
         <Integer as RangeElement>::RANGE_OID,
         <Integer as RangeElement>::RANGE_ARRAY_OID,
