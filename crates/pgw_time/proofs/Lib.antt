@@ -1,0 +1,3 @@
+pub mod IntervalFields
+pub mod WorkedFields
+pub mod Excluded
