@@ -1,0 +1,4 @@
+pub mod Numeric
+pub mod Refusals
+pub mod Field
+pub mod Written
