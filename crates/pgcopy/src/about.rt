@@ -12,19 +12,23 @@ stream of the same rows. A line of report goes to standard error.
 
 Each TYPE is the type of one column, with a ? behind it where a field may be
 null:
-  bool      true or false
-  char      one byte, PostgreSQL's \"char\"
-  int2      a signed number of 16 bits
-  int4      a signed number of 32 bits
-  int8      a signed number of 64 bits
-  oid       an object identifier, an unsigned number of 32 bits
-  text      text of UTF-8
-  bytea     any bytes
-  uuid      an identifier of 16 bytes
-  money     an amount, a signed number of 64 bits
-  pg_lsn    a place in the write-ahead log, an unsigned number of 64 bits
-  macaddr   a hardware address of 6 bytes
-  macaddr8  a hardware address of 8 bytes
+  bool         true or false
+  char         one byte, PostgreSQL's \"char\"
+  int2         a signed number of 16 bits
+  int4         a signed number of 32 bits
+  int8         a signed number of 64 bits
+  oid          an object identifier, an unsigned number of 32 bits
+  text         text of UTF-8
+  bytea        any bytes
+  uuid         an identifier of 16 bytes
+  money        an amount, a signed number of 64 bits
+  pg_lsn       a place in the write-ahead log, an unsigned number of 64 bits
+  macaddr      a hardware address of 6 bytes
+  macaddr8     a hardware address of 8 bytes
+  date         a date, in days from 2000-01-01
+  time         a time of day, in microseconds
+  timestamp    a date and time, in microseconds from 2000-01-01
+  timestamptz  the same in UTC
 
 options, in front of the types, each at most once:
   rows=N   refuse a stream of more than N rows, N up to 18446744073709551615

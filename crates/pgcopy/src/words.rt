@@ -103,6 +103,10 @@ fn named_type(name: &str) -> Option<PgType>
         "pg_lsn" => Some(PgType::Lsn),
         "macaddr" => Some(PgType::Mac),
         "macaddr8" => Some(PgType::Mac8),
+        "date" => Some(PgType::Date),
+        "time" => Some(PgType::Time),
+        "timestamp" => Some(PgType::Timestamp),
+        "timestamptz" => Some(PgType::Timestamptz),
         _ => None,
     }
 }

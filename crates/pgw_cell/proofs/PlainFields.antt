@@ -4,7 +4,7 @@ use Rattle.std.specs.Int.{Width, to_be_bytes, from_be_bytes, cast_signed}
 use Rattle.std.proofs.lemmas.Bool.{cases_lt}
 use Rattle.std.proofs.lemmas.List.{take_rest, get_or-append-add}
 use Rattle.pgw_wire.specs.Cell.{Cell, frame, size_of}
-use Rattle.pgw_meta.specs.Shape.{Scalar, bool, char, int2, int4, int8, oid, text, bytea, uuid, money, pg_lsn, macaddr, macaddr8, Shape, scalar, nullable}
+use Rattle.pgw_meta.specs.Shape.{Scalar, bool, char, int2, int4, int8, oid, text, bytea, uuid, money, pg_lsn, macaddr, macaddr8, date, time, timestamp, timestamptz, Shape, scalar, nullable}
 use Rattle.pgw_scalar.proofs.Readers.{IsBytes}
 use Rattle.pgw_scalar.proofs.Whole.{HasSize, size_16, size_32, size_64, signed_bytes_are, unsigned_bytes_are}
 use Rattle.pgw_cell.specs.Value.{Value, null, truth, number, natural, bytes as byte_value, string}
@@ -72,6 +72,10 @@ spelling_same money p byte h = signed_same w64 8 size_64 p byte h
 spelling_same pg_lsn p byte h = unsigned_same w64 8 size_64 p byte h
 spelling_same macaddr p byte h = sized_same 6 p h
 spelling_same macaddr8 p byte h = sized_same 8 p h
+spelling_same date p byte h = signed_same w32 4 size_32 p byte h
+spelling_same time p byte h = signed_same w64 8 size_64 p byte h
+spelling_same timestamp p byte h = signed_same w64 8 size_64 p byte h
+spelling_same timestamptz p byte h = signed_same w64 8 size_64 p byte h
 spelling_same _ p byte h = absurd h
 
 piece_same : (t : Shape) (p : List ℕ) → IsBytes p → Passes (plain_rule t) p → IsSame (SpellsPiece t) (canonical_piece t) p

@@ -121,15 +121,15 @@ spelling_whole money has = signed_whole w64 8 size_64
 spelling_whole pg_lsn has = unsigned_whole w64 8 size_64
 spelling_whole macaddr has = sized_whole 6
 spelling_whole macaddr8 has = sized_whole 8
+spelling_whole date has = signed_whole w32 4 size_32
+spelling_whole time has = signed_whole w64 8 size_64
+spelling_whole timestamp has = signed_whole w64 8 size_64
+spelling_whole timestamptz has = signed_whole w64 8 size_64
 spelling_whole _ has = absurd (cc)
 
 pub spelling_told : (s : Scalar) → IsToldSpelling (spelling s)
 spelling_told inet = no_spelling_told
 spelling_told cidr = no_spelling_told
-spelling_told date = no_spelling_told
-spelling_told time = no_spelling_told
-spelling_told timestamp = no_spelling_told
-spelling_told timestamptz = no_spelling_told
 spelling_told interval = no_spelling_told
 spelling_told numeric = no_spelling_told
 spelling_told s = told_whole (spelling s) (spelling_whole s refl)

@@ -2,7 +2,7 @@
 use Rattle.std.specs.Prelude.{◌≡◌, ℕ, false, ◌≤◌, ◌⊎◌, List, [], ◌∷◌, ◌++◌, length, Some}
 use Rattle.std.specs.Str.{IsUtf8}
 use Rattle.pgw_wire.specs.Cell.{frame}
-use Rattle.pgw_meta.specs.Shape.{Scalar, bool, char, int2, int4, int8, oid, text, bytea, uuid, money, pg_lsn, macaddr, macaddr8, Shape, scalar, nullable}
+use Rattle.pgw_meta.specs.Shape.{Scalar, bool, char, int2, int4, int8, oid, text, bytea, uuid, money, pg_lsn, macaddr, macaddr8, date, time, timestamp, timestamptz, Shape, scalar, nullable}
 use Rattle.pgw_meta.specs.Schema.{is_nullable}
 use Rattle.pgw_cell.specs.Value.{Value}
 use Rattle.pgw_cell.specs.Cells.{Spells, Fits, canonical_cell}
@@ -32,6 +32,10 @@ scalar_rule money = Eight
 scalar_rule pg_lsn = Eight
 scalar_rule macaddr = Six
 scalar_rule macaddr8 = Eight
+scalar_rule date = Four
+scalar_rule time = Eight
+scalar_rule timestamp = Eight
+scalar_rule timestamptz = Eight
 scalar_rule _ = Nothing
 
 abbrev pub plain_rule : Shape → Rule

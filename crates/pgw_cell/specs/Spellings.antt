@@ -6,7 +6,7 @@ use Rattle.std.specs.Str.{IsUtf8}
 use mir.Val.{bits}
 use Rattle.pgw_wire.specs.declared.kind.Break.{Break}
 use Rattle.pgw_wire.specs.declared.kind.Break.TheVariants.{Size}
-use Rattle.pgw_meta.specs.Shape.{Scalar, bool, char, int2, int4, int8, oid, text, bytea, uuid, money, pg_lsn, macaddr, macaddr8}
+use Rattle.pgw_meta.specs.Shape.{Scalar, bool, char, int2, int4, int8, oid, text, bytea, uuid, money, pg_lsn, macaddr, macaddr8, date, time, timestamp, timestamptz}
 use Rattle.pgw_scalar.specs.Sized.{BreaksSized, IsSized, read_sized}
 use Rattle.pgw_scalar.specs.Whole.{signed_bytes, IsSigned, IsUnsigned}
 use Rattle.pgw_scalar.specs.Leading.{IsBool, bool_bytes, IsChar, char_bytes, BreaksEmpty, IsOid, oid_bytes, BreaksShort, read_bool, read_char, read_oid}
@@ -168,4 +168,8 @@ spelling money = signed w64 8
 spelling pg_lsn = unsigned w64 8
 spelling macaddr = sized 6
 spelling macaddr8 = sized 8
+spelling date = signed w32 4
+spelling time = signed w64 8
+spelling timestamp = signed w64 8
+spelling timestamptz = signed w64 8
 spelling _ = no_spelling

@@ -8,7 +8,7 @@ pub enum Datum {
     Null,
     /// Of a bool.
     Truth(bool),
-    /// Of a type of whole numbers: `int2`, `int4`, `int8` and `money`, and without a sign `"char"`, `oid` and `pg_lsn`.
+    /// Of a type of whole numbers: `int2`, `int4`, `int8`, `money`, dates and times, and without a sign `"char"`, `oid` and `pg_lsn`.
     Number(i128),
     /// Of a type of bytes: `bytea`, `uuid`, `macaddr` and `macaddr8`.
     Bytes(ByteList),

@@ -114,19 +114,11 @@ pub(crate) fn written<'a>(t: &PgType, piece: &'a [u8]) -> Result<Canonical<'a>, 
         PgType::Lsn => whole(8, piece),
         PgType::Mac => whole(6, piece),
         PgType::Mac8 => whole(8, piece),
+        PgType::Date => whole(4, piece),
+        PgType::Time => whole(8, piece),
+        PgType::Timestamp => whole(8, piece),
+        PgType::Timestamptz => whole(8, piece),
         PgType::Nullable(part) => written(part, piece),
-        PgType::Inet
-        | PgType::Cidr
-        | PgType::Date
-        | PgType::Time
-        | PgType::Timestamp
-        | PgType::Timestamptz
-        | PgType::Interval
-        | PgType::Numeric
-        | PgType::Array(_)
-        | PgType::Range(_)
-        | PgType::Multirange(_)
-        | PgType::Record(_)
-        | PgType::Named(..) => Err(Break::Size),
+        _ => Err(Break::Size),
     }
 }

@@ -70,9 +70,9 @@ impl PlainCell {
     /// What stands behind the canonical field at the front, of a value of at most `field_max` bytes. None where no such
     /// field stands there, or where it is not known to be one. It takes no memory.
     #[inline(always)]
-    pub fn behind_field(self, field_max: u32, bytes: &[u8]) -> Option<&[u8]>
+    pub fn behind_field<'a>(&self, field_max: u32, bytes: &'a [u8]) -> Option<&'a [u8]>
         requires { field_max ≤ 2147483647 }
-        ensures { (t : Shape) → IsPlainCellOf self t → IfSome result (λ rest. (field : List ℕ)
+        ensures { (t : Shape) → IsPlainCellOf self.now t → IfSome result (λ rest. (field : List ℕ)
             × IsPlainField field_max t field × (bytes.now ≡ field ++ rest.now)) }
     {
         match behind_piece(self.rule, field_max, bytes) {
@@ -100,20 +100,10 @@ fn rule_of(t: &PgType) -> Rule
         PgType::Lsn => Rule::Eight,
         PgType::Mac => Rule::Six,
         PgType::Mac8 => Rule::Eight,
+        PgType::Date => Rule::Four,
+        PgType::Time | PgType::Timestamp | PgType::Timestamptz => Rule::Eight,
         PgType::Nullable(part) => rule_of(part),
-        PgType::Inet
-        | PgType::Cidr
-        | PgType::Date
-        | PgType::Time
-        | PgType::Timestamp
-        | PgType::Timestamptz
-        | PgType::Interval
-        | PgType::Numeric
-        | PgType::Array(_)
-        | PgType::Range(_)
-        | PgType::Multirange(_)
-        | PgType::Record(_)
-        | PgType::Named(..) => Rule::Nothing,
+        _ => Rule::Nothing,
     }
 }
 

@@ -175,20 +175,10 @@ fn read_piece(alloc: Global, t: &PgType, piece: &[u8]) -> Result<Datum, CellFaul
         PgType::Lsn => natural(read_lsn(piece)),
         PgType::Mac => read_sized(alloc, 6, piece),
         PgType::Mac8 => read_sized(alloc, 8, piece),
+        PgType::Date => number(read_int4(piece)),
+        PgType::Time | PgType::Timestamp | PgType::Timestamptz => number(read_int8(piece)),
         PgType::Nullable(part) => read_piece(alloc, part, piece),
-        PgType::Inet
-        | PgType::Cidr
-        | PgType::Date
-        | PgType::Time
-        | PgType::Timestamp
-        | PgType::Timestamptz
-        | PgType::Interval
-        | PgType::Numeric
-        | PgType::Array(_)
-        | PgType::Range(_)
-        | PgType::Multirange(_)
-        | PgType::Record(_)
-        | PgType::Named(..) => Err(CellFault::Break(Break::Size)),
+        _ => Err(CellFault::Break(Break::Size)),
     }
 }
 

@@ -112,20 +112,12 @@ fn write_piece(
         PgType::Lsn => write_field(&(number_of(value) as u64).to_be_bytes(), field_max, out),
         PgType::Mac => write_field(bytes_of(value), field_max, out),
         PgType::Mac8 => write_field(bytes_of(value), field_max, out),
+        PgType::Date => write_field(&(number_of(value) as i32).to_be_bytes(), field_max, out),
+        PgType::Time | PgType::Timestamp | PgType::Timestamptz => {
+            write_field(&(number_of(value) as i64).to_be_bytes(), field_max, out)
+        }
         PgType::Nullable(part) => write_piece(part, value, field_max, out),
-        PgType::Inet
-        | PgType::Cidr
-        | PgType::Date
-        | PgType::Time
-        | PgType::Timestamp
-        | PgType::Timestamptz
-        | PgType::Interval
-        | PgType::Numeric
-        | PgType::Array(_)
-        | PgType::Range(_)
-        | PgType::Multirange(_)
-        | PgType::Record(_)
-        | PgType::Named(..) => unreachable!(),
+        _ => unreachable!(),
     }
 }
 

@@ -20,7 +20,7 @@ use Rattle.pgw_tree.specs.Spells.{SpellsRow}
 use Rattle.pgw_tree.specs.Canonical.{FitsRow, canonical_cells, canonical_row}
 use Rattle.pgw_tree.specs.Stream.{AreRows}
 use Rattle.pgw_tree.specs.Columns.{SpellsFit}
-use Rattle.pgw_tree.specs.Plain.{IsPlainRow, ArePlainRows}
+use Rattle.pgw_tree.specs.Plain.{IsPlainFields, IsPlainRow, ArePlainRows}
 use Rattle.pgw_copy.proofs.Fields.{fields_append}
 use Rattle.pgw_tree.proofs.RowFields.{field_of}
 use Rattle.pgw_tree.proofs.Prefixes.{spells_more, fits_more, canonical_more}
@@ -35,13 +35,6 @@ some_at {A = A} r x P is h = subst (λ (o : Option A). IfSome o P) is h
 pub some_unless_none : {A : Type 0} (r : Option A) → (IsNone r → ⊥) → IsSome r
 some_unless_none None h = absurd (h refl)
 some_unless_none (Some x) h = refl
-
--- the canonical fields of values that fit, one behind the other
-pub record IsPlainFields (most : ℕ) (ts : List Shape) (vs : List Value) (bytes : List ℕ) : Type 0 where
-  pub spelled : SpellsRow ts (canonical_cells ts vs) vs
-  pub fit : FitsRow most ts vs
-  pub each : AreFields (canonical_cells ts vs) bytes
-  pub is : bytes ≡ flat_map frame (canonical_cells ts vs)
 
 pub plain_none : (most : ℕ) → IsPlainFields most [] [] []
 plain_none most = record { spelled = tt; fit = tt; each = refl; is = refl }

@@ -1,5 +1,5 @@
 -- All fields of a row: those of its columns, and those behind them.
-use Rattle.std.proofs.Common.{◌≡◌, ℕ, ◌+◌, ◌<◌, ◌≤◌, ◌^◌, List, [], ◌∷◌, ◌++◌, length, None, Some, refl, sym, ap, ◌∙◌, arith, append_assoc, append-nil, drop, lit<}
+use Rattle.std.proofs.Common.{◌≡◌, ℕ, ◌+◌, ◌<◌, ◌≤◌, ◌^◌, List, [], ◌∷◌, ◌++◌, length, None, Some, refl, sym, ap, ◌∙◌, arith, append_assoc, append-nil, drop, lit<, subst}
 use Rattle.pgw_wire.proofs.Lists.{same_rest}
 use Rattle.pgw_wire.specs.Cell.{Cell, frame, size_of}
 use Rattle.pgw_meta.specs.Shape.{Shape}
@@ -22,6 +22,11 @@ spells-append [] cells more (v ∷ vs) spelled = absurd spelled
 spells-append (t ∷ ts) [] more values spelled = absurd spelled
 spells-append (t ∷ ts) (c ∷ cs) more [] spelled = absurd spelled
 spells-append (t ∷ ts) (c ∷ cs) more (v ∷ vs) spelled = (spelled.0, spells-append ts cs more vs spelled.1)
+
+-- Fields behind others.
+pub fields_both : (cells others : List Cell) (x y : List ℕ) → AreFields cells x → AreFields others y → AreFields (cells ++ others) (x ++ y)
+fields_both [] others x y each more = subst (λ (l : List ℕ). AreFields others l) (ap (λ l. l ++ y) (sym each)) more
+fields_both (c ∷ cs) others x y each more = (each.0, each.1 ++ y, each.2, fields_both cs others each.1 y each.3 more, ap (λ l. l ++ y) each.4 ∙ append_assoc each.0 each.1 y)
 
 -- As many fields in front are the same fields.
 pub fields_once : (cells others : List Cell) (x x' behind rest : List ℕ) → length cells ≡ length others → AreFields cells x → AreFields others x' → x ++ behind ≡ x' ++ rest → x ≡ x'

@@ -1,10 +1,21 @@
 -- Rows whose bytes are the canonical ones of their values already, so that they may be written as they stand.
 use Rattle.std.specs.Prelude.{◌≡◌, ℕ, ◌≤◌, ◌++◌, List, [], ◌∷◌, length}
 use Rattle.std.specs.Io.{StartsWith}
+use Rattle.std.specs.List.{flat_map}
+use Rattle.pgw_wire.specs.Cell.{frame}
+use Rattle.pgw_copy.specs.Format.{AreFields}
 use Rattle.pgw_meta.specs.Shape.{Shape}
 use Rattle.pgw_cell.specs.Value.{Value}
-use Rattle.pgw_tree.specs.Canonical.{canonical_row}
+use Rattle.pgw_tree.specs.Spells.{SpellsRow}
+use Rattle.pgw_tree.specs.Canonical.{FitsRow, canonical_cells, canonical_row}
 use Rattle.pgw_tree.specs.Copying.{IsValuesRow}
+
+-- the canonical fields of values that fit, one behind the other
+pub record IsPlainFields (most : ℕ) (columns : List Shape) (values : List Value) (bytes : List ℕ) : Type 0 where
+  pub spelled : SpellsRow columns (canonical_cells columns values) values
+  pub fit : FitsRow most columns values
+  pub each : AreFields (canonical_cells columns values) bytes
+  pub is : bytes ≡ flat_map frame (canonical_cells columns values)
 
 -- a row that spells these values, which fit, and is their canonical row
 pub record IsPlainRow (most : ℕ) (columns : List Shape) (bytes : List ℕ) (values : List Value) : Type 0 where

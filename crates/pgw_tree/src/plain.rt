@@ -1,11 +1,29 @@
 ghost use Rattle.std.specs.Prelude.{◌≡◌, ◌≤◌, ◌++◌, List, ℕ, IfSome};
 ghost use Rattle.pgw_meta.specs.Types.{column_shapes};
 ghost use Rattle.pgw_cell.specs.Value.{Value};
-ghost use Rattle.pgw_tree.specs.Plain.{IsPlainRow, IsPlainRun};
+ghost use Rattle.pgw_tree.specs.Plain.{IsPlainFields, IsPlainRow, IsPlainRun};
 
 use crate::columns::Columns;
 use pgw_cell::PlainCell;
 use pgw_wire::take_u16;
+
+/// What stands behind the canonical fields of the columns at the front. None where none stand there.
+#[inline(always)]
+pub(crate) fn behind_plain_fields<'a>(
+    columns: &Columns<'_>,
+    field_max: u32,
+    bytes: &'a [u8],
+) -> Option<&'a [u8]>
+    requires max { field_max ≤ 2147483647 }
+    ensures some { IfSome result (λ rest. (fields : List ℕ) × (values : List Value)
+        × IsPlainFields field_max (column_shapes columns.now.types.now) values fields × (bytes.now ≡ fields ++ rest.now)) }
+{
+    let mut rest = bytes;
+    for (_place, cell) in columns.plain.iter().enumerate() {
+        rest = cell.behind_field(field_max, rest)?;
+    }
+    Some(rest)
+}
 
 /// What stands behind the canonical row at the front. None where none stands there.
 #[inline(always)]
@@ -14,14 +32,11 @@ fn behind_plain_row<'a>(columns: &Columns<'_>, field_max: u32, bytes: &'a [u8]) 
     ensures some { IfSome result (λ rest. (row : List ℕ) × (values : List Value)
         × IsPlainRow field_max (column_shapes columns.now.types.now) row values × (bytes.now ≡ row ++ rest.now)) }
 {
-    let (count, mut rest) = take_u16(bytes)?;
+    let (count, fields) = take_u16(bytes)?;
     if count as usize != columns.plain.len() {
         return None;
     }
-    for (_place, cell) in columns.plain.iter().enumerate() {
-        rest = cell.behind_field(field_max, rest)?;
-    }
-    Some(rest)
+    behind_plain_fields(columns, field_max, fields)
 }
 
 /// Rows, and the bytes that they are.
@@ -68,6 +83,7 @@ pub(crate) fn plain_rows<'a>(
 {
     if let [only] = columns.plain
         && *only == PlainCell::four_bytes()
+        && field_max >= 4
     {
         let known = Columns {
             types: columns.types,

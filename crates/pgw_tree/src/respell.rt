@@ -5,8 +5,8 @@ ghost use Rattle.pgw_tree.specs.Runs.{AreRespelled, RespellsRow};
 
 use crate::columns::Columns;
 use crate::fields::behind_fields;
-use crate::plain::Run;
-use crate::rewrite::push_row;
+use crate::plain::{Run, behind_plain_fields};
+use crate::rewrite::{push_plain_row, push_row};
 use pgw_copy::NEGATIVE_COUNT;
 use pgw_wire::{ByteBuffer, take_u16};
 
@@ -15,7 +15,7 @@ const ENOUGH: usize = 32768;
 
 /// Appends the canonical row of the values that the first fields of the row at the front spell, and answers what stands behind
 /// that row. None, and the buffer is as before, where no whole row stands there that spells values which fit, or where memory
-/// is refused.
+/// is refused. Where the columns' fields are canonical as they stand, they are appended in one piece.
 fn respell_row<'a>(
     columns: &Columns<'_>,
     field_max: u32,
@@ -30,6 +30,14 @@ fn respell_row<'a>(
     let (count, fields) = take_u16(bytes)?;
     if count >= NEGATIVE_COUNT || (count as usize) < columns.types.len() {
         return None;
+    }
+    if let Some(others) = behind_plain_fields(columns, field_max, fields) {
+        let behind = behind_fields(count as usize - columns.types.len(), others)?;
+        let plain = &fields[..fields.len() - others.len()];
+        return match push_plain_row(columns, plain, out) {
+            Ok(()) => Some(behind),
+            Err(_) => None,
+        };
     }
     let rest = behind_fields(count as usize, fields)?;
     match push_row(columns, field_max, fields, out) {

@@ -1,4 +1,5 @@
 ghost use Rattle.std.specs.Prelude.{◌≡◌, ◌≤◌, ◌*◌, ◌++◌, List, ℕ, length, OnErr, OnOk, IfOk, IfErr};
+ghost use Rattle.std.specs.Int.{to_be_bytes, w16};
 ghost use Rattle.pgw_wire.specs.Cell.{Cell};
 ghost use Rattle.pgw_meta.specs.Types.{column_shapes};
 ghost use Rattle.pgw_cell.specs.Value.{Value};
@@ -11,7 +12,7 @@ use crate::columns::Columns;
 use crate::fields::front_cell;
 use crate::send_fault::SendFault;
 use pgw_cell::{MeasureFault, measure_cell, rewrite_cell};
-use pgw_wire::ByteBuffer;
+use pgw_wire::{ByteBuffer, NoMemory};
 
 /// How many bytes the canonical fields have together of the values that the first fields of a row spell, column by column.
 /// The bytes begin with the row's fields, of which there are enough. It takes no memory.
@@ -57,6 +58,22 @@ fn rewrite_row(columns: &Columns<'_>, fields: &[u8], out: &mut ByteBuffer)
         rewrite_cell(t, cell, columns.found, out);
         rest = behind;
     }
+}
+
+/// Appends the count of the columns and their fields, which are canonical as they stand. At an error the bytes are as before.
+pub(crate) fn push_plain_row(
+    columns: &Columns<'_>,
+    fields: &[u8],
+    out: &mut ByteBuffer,
+) -> Result<(), NoMemory>
+    ensures ok { OnOk result (out.new.bytes
+        ≡ out.old.bytes ++ (to_be_bytes w16 (length columns.now.types.now) ++ fields.now)) }
+    ensures kept { OnErr result (out.new.bytes ≡ out.old.bytes) }
+{
+    out.reserve(fields.len() + 2)?;
+    out.push_reserved(&(columns.types.len() as u16).to_be_bytes());
+    out.push_reserved(fields);
+    Ok(())
 }
 
 /// Appends the canonical row of the values that the first fields of a row spell, column by column. The bytes begin with the

@@ -34,3 +34,18 @@ pub returns-in-Lsn : goal.returns-in-Lsn
 returns-in-Lsn t c =
     c.whole-in-Lsn.ensures ∙ unsigned_written w64 8 size_64 c.args.piece.now (λ i. omega (arith, c.type_inv.piece i))
     ∙ ap (λ u. canonical_read (shape u) c.args.piece.now) (sym c.in-Lsn.is)
+
+pub returns-in-Time : goal.returns-in-Time
+returns-in-Time t c =
+    c.whole-in-Time.ensures ∙ signed_written w64 8 size_64 c.args.piece.now (λ i. omega (arith, c.type_inv.piece i))
+    ∙ ap (λ u. canonical_read (shape u) c.args.piece.now) (sym c.in-Time.is)
+
+pub returns-in-Timestamp : goal.returns-in-Timestamp
+returns-in-Timestamp t c =
+    c.whole-in-Timestamp.ensures ∙ signed_written w64 8 size_64 c.args.piece.now (λ i. omega (arith, c.type_inv.piece i))
+    ∙ ap (λ u. canonical_read (shape u) c.args.piece.now) (sym c.in-Timestamp.is)
+
+pub returns-in-Timestamptz : goal.returns-in-Timestamptz
+returns-in-Timestamptz t c =
+    c.whole-in-Timestamptz.ensures ∙ signed_written w64 8 size_64 c.args.piece.now (λ i. omega (arith, c.type_inv.piece i))
+    ∙ ap (λ u. canonical_read (shape u) c.args.piece.now) (sym c.in-Timestamptz.is)

@@ -1,41 +1,20 @@
-use Rattle.std.proofs.Common.{◌≡◌, ◌<◌, ◌++◌, ◌∷◌, [], List, length, take, get_or, sym, ap, ◌∙◌, subst, arith, append_assoc}
+use Rattle.std.proofs.Common.{◌≡◌, ◌++◌, length, ap, sym, ◌∙◌, arith, append_assoc}
 use Rattle.std.specs.Int.{to_be_bytes, w16}
-use Rattle.std.proofs.lemmas.List.{length-map, take_all, take_more}
-use Rattle.pgw_meta.specs.Shape.{Shape, scalar, int4}
+use Rattle.std.proofs.lemmas.List.{length-map}
 use Rattle.pgw_meta.specs.Types.{shape, column_shapes}
 use Rattle.pgw_cell.specs.Plain.{plain_cell}
-use Rattle.pgw_tree.proofs.Prefixes.{plain_at}
-use Rattle.pgw_tree.proofs.PlainRows.{IsPlainFields, plain_more, plain_row}
+use Rattle.pgw_tree.proofs.PlainRows.{some_weaker, plain_row}
 use Rattle.pgw_tree.proofs.plain.behind_plain_row.Goals as goal
-
-pub loop-place-preserved : goal.loop-place-preserved
-loop-place-preserved c =
-    let ts = column_shapes c.args.columns.now.types.now in
-    let i = c.loop-place._place in
-    let inv = c.loop-place.invariant in
-    let t = get_or ts i (scalar int4) in
-    let within : i < length ts = omega (arith, c.loop-place-test.true, ap length c.args.columns.now.each ∙ length-map ts plain_cell) in
-    let f = c.in_ok-rest.ensures t (plain_at c.args.columns.now.plain.now ts i _ (scalar int4) c.args.columns.now.each within) in
-    let count = to_be_bytes w16 c.in_ok-count.count in
-    let rest = c.in_ok-rest.rest.now in
-    let values = inv.values ++ (f.1.value ∷ []) in
-    let fields = inv.fields ++ f.0 in
-    record {
-      values = values;
-      fields = fields;
-      plain = subst (λ (us : List Shape). IsPlainFields c.args.field_max us values fields) (sym (take_more ts i (scalar int4) within))
-          (plain_more c.args.field_max (take i ts) inv.values inv.fields t f.0 (omega (arith, c.requires.max)) inv.plain f.1);
-      is = inv.is ∙ ap (λ r. count ++ (inv.fields ++ r)) f.2 ∙ ap (λ l. count ++ l) (sym (append_assoc inv.fields f.0 rest));
-    }
 
 pub returns : goal.returns
 returns c =
     let types = c.args.columns.now.types.now in
     let ts = column_shapes types in
     let n = c.in_ok-count.count in
-    let inv = c.loop-place.invariant in
+    let count = to_be_bytes w16 n in
     let known = ap length c.args.columns.now.each ∙ length-map ts plain_cell in
-    let all : take c.loop-place._place ts ≡ ts = take_all c.loop-place._place ts (omega (arith, c.loop-place-test.false, known)) in
     let many : length ts ≡ n = omega (arith, known, c.if-count-columns.false) in
-    let plain = subst (λ (us : List Shape). IsPlainFields c.args.field_max us inv.values inv.fields) all inv.plain in
-    record { some = (to_be_bytes w16 n ++ inv.fields, inv.values, plain_row c.args.field_max ts inv.values inv.fields n plain many (omega (arith, many, length-map types shape, c.args.columns.now.few)), inv.is) }
+    record {
+      some = some_weaker c.behind_plain_fields.result _ _ c.behind_plain_fields.ensures.some (λ rest f.
+          (count ++ f.0, f.1, plain_row c.args.field_max ts f.1 f.0 n f.2 many (omega (arith, many, length-map types shape, c.args.columns.now.few)), c.in_ok-count.ensures.number ∙ ap (λ l. count ++ l) f.3 ∙ sym (append_assoc count f.0 rest.now)));
+    }
