@@ -5,7 +5,7 @@ program = crates/pgcopy/out/pgcopy
 bin = $(DESTDIR)$(PREFIX)/bin
 man1 = $(DESTDIR)$(PREFIX)/share/man/man1
 
-.PHONY: build test bench program-test postgres-test baseline-test install uninstall
+.PHONY: build test bench program-test memory-test postgres-test baseline-test install uninstall
 
 build:
 	./pgcopy --build
@@ -21,6 +21,9 @@ bench:
 
 program-test:
 	tests/program/run
+
+memory-test:
+	tests/memory/run
 
 postgres-test:
 	tests/postgres/run

@@ -121,8 +121,10 @@ impl Column {
             "bool" => Type::Bool,
             "char" => Type::Leading(1),
             "int2" => Type::Exact(2),
-            "int4" => Type::Exact(4),
-            "int8" | "money" | "pg_lsn" | "macaddr8" => Type::Exact(8),
+            "int4" | "date" => Type::Exact(4),
+            "int8" | "money" | "pg_lsn" | "macaddr8" | "time" | "timestamp" | "timestamptz" => {
+                Type::Exact(8)
+            }
             "oid" => Type::Leading(4),
             "text" => Type::Text,
             "bytea" => Type::Bytea,
