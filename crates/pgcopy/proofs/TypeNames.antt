@@ -8,9 +8,9 @@ use Rattle.std.specs.Option.{MatchOption, is_some, unwrap_or}
 use Rattle.std.specs.Str.{bytes_eq}
 use Rattle.std.specs.Str.Pattern.{FindsCharSuffix}
 use Rattle.std.specs.List.{AllByRecursion, filter_map}
-use Rattle.pgw_meta.specs.Shape.{Scalar, bool, char, int2, int4, int8, oid, text, bytea, uuid, money, pg_lsn, macaddr, macaddr8, date, time, timestamp, timestamptz, Shape, scalar, nullable}
+use Rattle.pgw_meta.specs.Shape.{Scalar, bool, char, int2, int4, int8, oid, text, bytea, uuid, money, pg_lsn, macaddr, macaddr8, inet, cidr, date, time, timestamp, timestamptz, interval, numeric, Shape, scalar, nullable}
 use Rattle.pgw_meta.specs.Schema.{IsValidColumn, IsValidSchema}
-use Rattle.pgw_cell.specs.Built.{is_built, IsBuilt}
+use Rattle.pgw_cell.specs.Built.{IsBuilt}
 use Rattle.pgcopy.specs.Words.{type_names, look_up, in_front, type_of}
 
 -- a word is what stands in front of its end, and the end
@@ -101,17 +101,17 @@ pub record IsKnown (t : Shape) : Type 0 where
   pub valid : IsValidColumn t
   pub built : IsBuilt t
 
-scalar_known : (s : Scalar) → is_built s ≡ true → IsKnown (scalar s) × IsKnown (nullable (scalar s))
-scalar_known s line = (
-  record { valid = record { shallow = lit≤ tt; formed = tt }; built = line },
-  record { valid = record { shallow = lit≤ tt; formed = (refl, tt) }; built = line },
+scalar_known : (s : Scalar) → IsKnown (scalar s) × IsKnown (nullable (scalar s))
+scalar_known s = (
+  record { valid = record { shallow = lit≤ tt; formed = tt }; built = tt },
+  record { valid = record { shallow = lit≤ tt; formed = (refl, tt) }; built = tt },
 )
 
 pub known : (word : List ℕ) (t : Shape) → type_of word ≡ Some t → IsKnown t
 known word t e = by (in_front (codes "?") word) refl
   where
     all : AllByRecursion (λ e. IsKnown e.1 × IsKnown (nullable e.1)) type_names
-    all = (scalar_known bool refl, (scalar_known char refl, (scalar_known int2 refl, (scalar_known int4 refl, (scalar_known int8 refl, (scalar_known oid refl, (scalar_known text refl, (scalar_known bytea refl, (scalar_known uuid refl, (scalar_known money refl, (scalar_known pg_lsn refl, (scalar_known macaddr refl, (scalar_known macaddr8 refl, (scalar_known date refl, (scalar_known time refl, (scalar_known timestamp refl, (scalar_known timestamptz refl, tt)))))))))))))))))
+    all = (scalar_known bool, (scalar_known char, (scalar_known int2, (scalar_known int4, (scalar_known int8, (scalar_known oid, (scalar_known text, (scalar_known bytea, (scalar_known uuid, (scalar_known money, (scalar_known pg_lsn, (scalar_known macaddr, (scalar_known macaddr8, (scalar_known inet, (scalar_known cidr, (scalar_known date, (scalar_known time, (scalar_known timestamp, (scalar_known timestamptz, (scalar_known interval, (scalar_known numeric, tt)))))))))))))))))))))
 
     marked : (r : Option Shape) → ((s : Shape) → r ≡ Some s → IsKnown s × IsKnown (nullable s)) → option_map nullable r ≡ Some t → IsKnown t
     marked None all e = absurd (cc)

@@ -6,7 +6,7 @@ use Rattle.std.specs.Option.{option_or, option_and_then, option_map_or}
 use Rattle.std.specs.Result.{result_err}
 use Rattle.std.specs.Str.{bytes_eq, all_ascii_digits}
 use Rattle.std.specs.Str.Parse.{digits_value}
-use Rattle.pgw_meta.specs.Shape.{Shape, scalar, nullable, bool, char, int2, int4, int8, oid, text, bytea, uuid, money, pg_lsn, macaddr, macaddr8, date, time, timestamp, timestamptz}
+use Rattle.pgw_meta.specs.Shape.{Shape, scalar, nullable, bool, char, int2, int4, int8, oid, text, bytea, uuid, money, pg_lsn, macaddr, macaddr8, inet, cidr, date, time, timestamp, timestamptz, interval, numeric}
 use Rattle.pgw_tree.specs.Limits.{Limits, default_limits}
 use Rattle.pgcopy.specs.declared.words.WordFault.{WordFault}
 use Rattle.pgcopy.specs.declared.words.WordFault.TheVariants.{NoCommand, UnknownCommand, BadNumber, Repeated, NoTypes, Schema, NotYet}
@@ -18,8 +18,10 @@ type_names =
     ∷ (codes "int4", scalar int4) ∷ (codes "int8", scalar int8) ∷ (codes "oid", scalar oid)
     ∷ (codes "text", scalar text) ∷ (codes "bytea", scalar bytea) ∷ (codes "uuid", scalar uuid)
     ∷ (codes "money", scalar money) ∷ (codes "pg_lsn", scalar pg_lsn) ∷ (codes "macaddr", scalar macaddr)
-    ∷ (codes "macaddr8", scalar macaddr8) ∷ (codes "date", scalar date) ∷ (codes "time", scalar time)
-    ∷ (codes "timestamp", scalar timestamp) ∷ (codes "timestamptz", scalar timestamptz) ∷ []
+    ∷ (codes "macaddr8", scalar macaddr8) ∷ (codes "inet", scalar inet) ∷ (codes "cidr", scalar cidr)
+    ∷ (codes "date", scalar date) ∷ (codes "time", scalar time) ∷ (codes "timestamp", scalar timestamp)
+    ∷ (codes "timestamptz", scalar timestamptz) ∷ (codes "interval", scalar interval)
+    ∷ (codes "numeric", scalar numeric) ∷ []
 
 -- what stands beside a name in a table
 abbrev pub look_up : {A : Type 0} → List ℕ → List (List ℕ × A) → Option A

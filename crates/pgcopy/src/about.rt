@@ -25,10 +25,14 @@ null:
   pg_lsn       a place in the write-ahead log, an unsigned number of 64 bits
   macaddr      a hardware address of 6 bytes
   macaddr8     a hardware address of 8 bytes
+  inet         an address of IPv4 or IPv6, with the length of its prefix
+  cidr         a network of IPv4 or IPv6, in the same form
   date         a date, in days from 2000-01-01
   time         a time of day, in microseconds
   timestamp    a date and time, in microseconds from 2000-01-01
   timestamptz  the same in UTC
+  interval     a span of time, as microseconds, days and months
+  numeric      a number of any precision, by its digits, or not a number
 
 options, in front of the types, each at most once:
   rows=N   refuse a stream of more than N rows, N up to 18446744073709551615

@@ -103,10 +103,14 @@ fn named_type(name: &str) -> Option<PgType>
         "pg_lsn" => Some(PgType::Lsn),
         "macaddr" => Some(PgType::Mac),
         "macaddr8" => Some(PgType::Mac8),
+        "inet" => Some(PgType::Inet),
+        "cidr" => Some(PgType::Cidr),
         "date" => Some(PgType::Date),
         "time" => Some(PgType::Time),
         "timestamp" => Some(PgType::Timestamp),
         "timestamptz" => Some(PgType::Timestamptz),
+        "interval" => Some(PgType::Interval),
+        "numeric" => Some(PgType::Numeric),
         _ => None,
     }
 }

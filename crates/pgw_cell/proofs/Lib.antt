@@ -3,6 +3,7 @@ pub mod Spellings
 pub mod Pieces
 pub mod Reading
 pub mod Written
+pub mod Numerics
 pub mod Measured
 pub mod PlainFields
 pub mod ReadCells

@@ -15,6 +15,6 @@ piece_told _ = no_spelling_told
 
 -- Where the type has a spelling, a piece that is refused breaks in that kind.
 pub piece_broken : (t : Shape) → IsBuilt t → (kind : Break) (p : List ℕ) → IsBytes p → read_piece t p ≡ Err kind → BreaksPiece t kind p
-piece_broken (scalar s) built = (spelling_whole s built).exact.refuses.broken
+piece_broken (scalar s) built = (spelling_whole s).exact.refuses.broken
 piece_broken (nullable t) built = piece_broken t built
 piece_broken _ built = absurd built

@@ -1,7 +1,7 @@
 -- The spelling of each scalar type, told whole.
-use Rattle.std.proofs.Common.{◌≡◌, ℕ, ℤ, Bool, true, false, List, [], length, append-nil, w16, w32, w64, IsTrue, refl, sym, ap, ◌∙◌, subst}
+use Rattle.std.proofs.Common.{◌≡◌, ℕ, ℤ, Bool, true, false, List, [], length, append-nil, w16, w32, w64, refl, sym, ap, ◌∙◌, subst, arith}
 use Rattle.std.specs.Int.{Width, to_be_bytes}
-use Rattle.pgw_meta.specs.Shape.{Scalar, bool, char, int2, int4, int8, oid, text, bytea, uuid, money, pg_lsn, macaddr, macaddr8, inet, cidr, date, time, timestamp, timestamptz, interval, numeric}
+use Rattle.pgw_meta.specs.Shape.{Scalar, bool, char, int2, int4, int8, oid, text, bytea, uuid, money, pg_lsn, macaddr, macaddr8, inet, cidr, date, time, timestamp, timestamptz, interval as interval_type, numeric as numeric_type}
 use Rattle.pgw_scalar.specs.Whole.{signed_bytes}
 use Rattle.pgw_scalar.specs.Leading.{IsBool, bool_bytes, char_bytes, oid_bytes}
 use Rattle.pgw_scalar.proofs.Whole.{HasSize, size_16, size_32, size_64, signed_exact, unsigned_exact}
@@ -9,10 +9,15 @@ use Rattle.pgw_scalar.proofs.Sized.{bytes_exact}
 use Rattle.pgw_scalar.proofs.LeadingFields.{bool_exact, char_exact, oid_exact}
 use Rattle.pgw_scalar.proofs.Bytea.{bytea_exact}
 use Rattle.pgw_scalar.proofs.TextFields.{text_exact}
-use Rattle.pgw_cell.specs.Value.{Value, null, truth, number, bytes, string, natural}
-use Rattle.pgw_cell.specs.Built.{is_built}
-use Rattle.pgw_cell.specs.Spellings.{spelling, signed, unsigned, sized, bools, chars, oids, texts, byteas, bytes_of_number, bytes_of_natural, bytes_of_bytes}
-use Rattle.pgw_cell.proofs.Told.{IsToldSpelling, IsWhole, told_whole, no_spelling_told, exact_as}
+use Rattle.pgw_scalar.specs.Networks.{Network, network_bytes}
+use Rattle.pgw_scalar.proofs.NetworkFields.{network_exact}
+use Rattle.pgw_time.specs.Interval.{Interval, interval_bytes}
+use Rattle.pgw_time.proofs.IntervalFields.{interval_exact}
+use Rattle.pgw_numeric.specs.Numeric.{Numeric, IsNumeric, numeric_bytes}
+use Rattle.pgw_numeric.proofs.Exact.{numeric_exact, spelled_is_value, value_spelled, size_counted}
+use Rattle.pgw_cell.specs.Value.{Value, null, truth, number, bytes, string, natural, network, interval, numeric}
+use Rattle.pgw_cell.specs.Spellings.{spelling, signed, unsigned, sized, bools, chars, oids, texts, byteas, networks, intervals, numerics, network_size, size_of_numeric, bytes_of_number, bytes_of_natural, bytes_of_bytes, bytes_of_network, bytes_of_interval, bytes_of_numeric}
+use Rattle.pgw_cell.proofs.Told.{IsToldSpelling, IsWhole, told_whole, exact_as}
 
 -- No value of a type's own is null.
 no_truth : (b : Bool) → truth b ≡ null → ⊥
@@ -26,6 +31,15 @@ no_bytes b e = absurd (cc)
 
 no_string : (s : List ℕ) → string s ≡ null → ⊥
 no_string s e = absurd (cc)
+
+no_network : (n : Network) → network n ≡ null → ⊥
+no_network n e = absurd (cc)
+
+no_interval : (x : Interval) → interval x ≡ null → ⊥
+no_interval x e = absurd (cc)
+
+no_numeric : (n : Numeric) → numeric n ≡ null → ⊥
+no_numeric n e = absurd (cc)
 
 signed_whole : (w : Width) (size : ℕ) → HasSize w size → IsWhole (signed w size)
 signed_whole w size h = record {
@@ -107,29 +121,55 @@ byteas_whole = record {
   counted = λ v has. refl;
 }
 
-pub spelling_whole : (s : Scalar) → IsTrue (is_built s) → IsWhole (spelling s)
-spelling_whole bool has = bools_whole
-spelling_whole char has = chars_whole
-spelling_whole int2 has = signed_whole w16 2 size_16
-spelling_whole int4 has = signed_whole w32 4 size_32
-spelling_whole int8 has = signed_whole w64 8 size_64
-spelling_whole oid has = oids_whole
-spelling_whole text has = texts_whole
-spelling_whole bytea has = byteas_whole
-spelling_whole uuid has = sized_whole 16
-spelling_whole money has = signed_whole w64 8 size_64
-spelling_whole pg_lsn has = unsigned_whole w64 8 size_64
-spelling_whole macaddr has = sized_whole 6
-spelling_whole macaddr8 has = sized_whole 8
-spelling_whole date has = signed_whole w32 4 size_32
-spelling_whole time has = signed_whole w64 8 size_64
-spelling_whole timestamp has = signed_whole w64 8 size_64
-spelling_whole timestamptz has = signed_whole w64 8 size_64
-spelling_whole _ has = absurd (cc)
+networks_whole : (type_byte : ℕ) → IsWhole (networks type_byte)
+networks_whole type_byte = record {
+  exact = exact_as network (network_exact type_byte);
+  has = λ p v s. (s.0, s.2, record { many = s.1.laid_out.many; fits = s.1.fits });
+  some = λ v has e. no_network has.0 (sym has.1 ∙ e);
+  written = λ v has. (has.0, record { laid_out = record { many = has.2.many; bytes = ap (bytes_of_network (network_bytes type_byte)) has.1 }; fits = has.2.fits }, has.1);
+  counted = λ v has. omega (arith, ap network_size has.1, ap (λ u. length (bytes_of_network (network_bytes type_byte) u)) has.1, has.2.many);
+}
+
+intervals_whole : IsWhole intervals
+intervals_whole = record {
+  exact = exact_as interval interval_exact;
+  has = λ p v s. (s.0, s.2, s.1.fits);
+  some = λ v has e. no_interval has.0 (sym has.1 ∙ e);
+  written = λ v has. (has.0, record { rest = []; fits = has.2; is = ap (bytes_of_interval interval_bytes) has.1 ∙ sym (append-nil (interval_bytes has.0)) }, has.1);
+  counted = λ v has. sym (ap (λ u. length (bytes_of_interval interval_bytes u)) has.1);
+}
+
+numerics_whole : IsWhole numerics
+numerics_whole = record {
+  exact = exact_as numeric numeric_exact;
+  has = λ p v s. (s.0, s.2, spelled_is_value p s.0 s.1);
+  some = λ v has e. no_numeric has.0 (sym has.1 ∙ e);
+  written = λ v has. (has.0, subst (λ (u : Value). IsNumeric (bytes_of_numeric numeric_bytes u) has.0) (sym has.1) (value_spelled has.0 has.2), has.1);
+  counted = λ v has. ap size_of_numeric has.1 ∙ sym (ap (λ u. length (bytes_of_numeric numeric_bytes u)) has.1 ∙ size_counted has.0);
+}
+
+pub spelling_whole : (s : Scalar) → IsWhole (spelling s)
+spelling_whole bool = bools_whole
+spelling_whole char = chars_whole
+spelling_whole int2 = signed_whole w16 2 size_16
+spelling_whole int4 = signed_whole w32 4 size_32
+spelling_whole int8 = signed_whole w64 8 size_64
+spelling_whole oid = oids_whole
+spelling_whole text = texts_whole
+spelling_whole bytea = byteas_whole
+spelling_whole uuid = sized_whole 16
+spelling_whole money = signed_whole w64 8 size_64
+spelling_whole pg_lsn = unsigned_whole w64 8 size_64
+spelling_whole macaddr = sized_whole 6
+spelling_whole macaddr8 = sized_whole 8
+spelling_whole inet = networks_whole 0
+spelling_whole cidr = networks_whole 1
+spelling_whole date = signed_whole w32 4 size_32
+spelling_whole time = signed_whole w64 8 size_64
+spelling_whole timestamp = signed_whole w64 8 size_64
+spelling_whole timestamptz = signed_whole w64 8 size_64
+spelling_whole interval_type = intervals_whole
+spelling_whole numeric_type = numerics_whole
 
 pub spelling_told : (s : Scalar) → IsToldSpelling (spelling s)
-spelling_told inet = no_spelling_told
-spelling_told cidr = no_spelling_told
-spelling_told interval = no_spelling_told
-spelling_told numeric = no_spelling_told
-spelling_told s = told_whole (spelling s) (spelling_whole s refl)
+spelling_told s = told_whole (spelling s) (spelling_whole s)

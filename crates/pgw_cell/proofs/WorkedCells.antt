@@ -4,10 +4,12 @@ use Rattle.std.specs.Str.{chars, is_utf8}
 use Rattle.std.proofs.Common.{◌≡◌, ℕ, pos, negsuc, [], ◌∷◌, get_or, true, false, None, Some, Ok, Err, refl, ap, arith, lit<, lit≤}
 use lib.Utf8.{encode}
 use Rattle.pgw_wire.specs.declared.kind.Break.{Break}
-use Rattle.pgw_wire.specs.declared.kind.Break.TheVariants.{Null, Size, Utf8}
-use Rattle.pgw_meta.specs.Shape.{scalar, nullable, array, bool, char, int2, int4, int8, oid, text, bytea, uuid, money, pg_lsn, macaddr, macaddr8, inet}
+use Rattle.pgw_wire.specs.declared.kind.Break.TheVariants.{Null, Size, Utf8, Sign, Family, Prefix}
+use Rattle.pgw_meta.specs.Shape.{scalar, nullable, array, bool, char, int2, int4, int8, oid, text, bytea, uuid, money, pg_lsn, macaddr, macaddr8, inet, cidr, interval, numeric}
 use Rattle.pgw_scalar.proofs.TextFields.{no_utf8}
-use Rattle.pgw_cell.specs.Value.{Value, null, truth, number, natural, bytes, string}
+use Rattle.pgw_scalar.specs.Networks.{Network}
+use Rattle.pgw_numeric.specs.Numeric.{number as number_of, not_a_number}
+use Rattle.pgw_cell.specs.Value.{Value, null, truth, number, natural, bytes, string, network, interval as interval_value, numeric as numeric_value}
 use Rattle.pgw_cell.specs.Built.{IsBuilt}
 use Rattle.pgw_cell.specs.Cells.{HasType, Spells, Breaks, Fits, canonical_cell, canonical_size, read_value}
 use Rattle.pgw_cell.proofs.Reading.{value_once}
@@ -121,6 +123,52 @@ broken_text = (refl, no_utf8 (195 ∷ 40 ∷ []) tested)
 pub bytes_are_no_string : Spells (scalar bytea) (Some (97 ∷ [])) (string (97 ∷ [])) → ⊥
 bytes_are_no_string h = let e = h.2 in absurd (cc)
 
+-- 192.168.0.1/24 is an inet and no cidr, whose third byte is 1. A prefix of 33 bits breaks as prefix.
+abbrev host : Network
+host = record { six = false; prefix = 24; address = 192 ∷ 168 ∷ 0 ∷ 1 ∷ [] }
+
+pub host_read : read_value (scalar inet) (Some (2 ∷ 24 ∷ 0 ∷ 4 ∷ 192 ∷ 168 ∷ 0 ∷ 1 ∷ [])) ≡ Ok (network host)
+host_read = refl
+
+pub host_is_no_cidr : read_value (scalar cidr) (Some (2 ∷ 24 ∷ 0 ∷ 4 ∷ 192 ∷ 168 ∷ 0 ∷ 1 ∷ [])) ≡ Err Family
+host_is_no_cidr = refl
+
+pub host_in_a_cidr : canonical_cell (scalar cidr) (network host) ≡ Some (2 ∷ 24 ∷ 1 ∷ 4 ∷ 192 ∷ 168 ∷ 0 ∷ 1 ∷ [])
+host_in_a_cidr = refl
+
+pub long_prefix : read_value (scalar inet) (Some (2 ∷ 33 ∷ 0 ∷ 4 ∷ 192 ∷ 168 ∷ 0 ∷ 1 ∷ [])) ≡ Err Prefix
+long_prefix = refl
+
+pub host_size : canonical_size (scalar inet) (network host) ≡ 8
+host_size = refl
+
+-- An interval is its first 16 bytes: one microsecond, two days and three months.
+pub interval_of_seventeen : read_value (scalar interval) (Some (0 ∷ 0 ∷ 0 ∷ 0 ∷ 0 ∷ 0 ∷ 0 ∷ 1 ∷ 0 ∷ 0 ∷ 0 ∷ 2 ∷ 0 ∷ 0 ∷ 0 ∷ 3 ∷ 255 ∷ [])) ≡ Ok (interval_value (record { microseconds = pos 1; days = pos 2; months = pos 3 }))
+interval_of_seventeen = refl
+
+pub interval_of_none : Breaks (scalar interval) Size (Some [])
+interval_of_none = (refl, lit< tt)
+
+-- -7 with a byte behind it, and what is no number, with a scale and a digit, which are dropped where it is written. 0xD000
+-- is no sign.
+pub minus_seven : read_value (scalar numeric) (Some (0 ∷ 1 ∷ 0 ∷ 0 ∷ 64 ∷ 0 ∷ 0 ∷ 0 ∷ 0 ∷ 7 ∷ 170 ∷ [])) ≡ Ok (numeric_value (number_of true (pos 0) 0 (pos 7 ∷ [])))
+minus_seven = refl
+
+pub minus_seven_written : canonical_cell (scalar numeric) (numeric_value (number_of true (pos 0) 0 (pos 7 ∷ []))) ≡ Some (0 ∷ 1 ∷ 0 ∷ 0 ∷ 64 ∷ 0 ∷ 0 ∷ 0 ∷ 0 ∷ 7 ∷ [])
+minus_seven_written = refl
+
+pub no_number_with_a_scale : read_value (scalar numeric) (Some (0 ∷ 1 ∷ 0 ∷ 0 ∷ 192 ∷ 0 ∷ 0 ∷ 2 ∷ 0 ∷ 7 ∷ [])) ≡ Ok (numeric_value not_a_number)
+no_number_with_a_scale = refl
+
+pub no_number_written : canonical_cell (nullable (scalar numeric)) (numeric_value not_a_number) ≡ Some (0 ∷ 0 ∷ 0 ∷ 0 ∷ 192 ∷ 0 ∷ 0 ∷ 0 ∷ [])
+no_number_written = refl
+
+pub no_sign : read_value (scalar numeric) (Some (0 ∷ 0 ∷ 0 ∷ 0 ∷ 208 ∷ 0 ∷ 0 ∷ 0 ∷ [])) ≡ Err Sign
+no_sign = refl
+
+pub size_before_sign : read_value (scalar numeric) (Some (0 ∷ 2 ∷ 0 ∷ 0 ∷ 208 ∷ 0 ∷ 0 ∷ 0 ∷ 0 ∷ 7 ∷ [])) ≡ Err Size
+size_before_sign = refl
+
 -- A null is a value of a nullable type alone, which it is written as, and breaks as null in any other.
 pub null_spells : Spells (nullable (scalar int4)) None null
 null_spells = (refl, refl)
@@ -165,10 +213,7 @@ three_do_not h = omega (arith, h)
 
 -- Which types have a spelling, or are one of these or null.
 pub uuid_or_null : IsBuilt (nullable (scalar uuid))
-uuid_or_null = refl
-
-pub no_network_yet : IsBuilt (nullable (scalar inet)) → ⊥
-no_network_yet h = absurd (cc)
+uuid_or_null = tt
 
 pub no_array_yet : IsBuilt (array (scalar int4)) → ⊥
 no_array_yet h = h

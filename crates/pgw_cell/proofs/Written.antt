@@ -1,5 +1,5 @@
 -- The bytes that a piece is written as again: those of the piece, or its first.
-use Rattle.std.proofs.Common.{◌≡◌, ℕ, Bool, true, false, eqb, ltb, cond, List, length, take, Result, Ok, Err, w32, refl, sym, ap}
+use Rattle.std.proofs.Common.{◌≡◌, ℕ, Bool, true, false, eqb, ltb, cond, List, length, take, Result, Ok, Err, w32, refl, sym, ap, ◌∙◌}
 use Rattle.std.specs.Int.{Width, to_be_bytes, from_be_bytes, cast_signed}
 use Rattle.std.proofs.lemmas.Bool.{eqb-true, ltb-false}
 use Rattle.std.proofs.lemmas.List.{length-take-le}
@@ -10,8 +10,11 @@ use Rattle.pgw_scalar.specs.Whole.{signed_bytes}
 use Rattle.pgw_scalar.proofs.Readers.{IsBytes}
 use Rattle.pgw_scalar.proofs.LeadingFields.{bytes_taken}
 use Rattle.pgw_scalar.proofs.Whole.{HasSize, size_32, signed_bytes_are}
-use Rattle.pgw_cell.specs.Value.{Value, number, natural}
-use Rattle.pgw_cell.specs.Spellings.{read_as, signed, unsigned, oids, bytes_of_number, bytes_of_natural}
+use Rattle.pgw_wire.proofs.Lists.{take_piece}
+use Rattle.pgw_time.specs.Interval.{Interval, interval_bytes, first_interval}
+use Rattle.pgw_time.proofs.IntervalFields.{interval_is}
+use Rattle.pgw_cell.specs.Value.{Value, number, natural, interval}
+use Rattle.pgw_cell.specs.Spellings.{read_as, signed, unsigned, oids, intervals, bytes_of_number, bytes_of_natural}
 use Rattle.pgw_cell.specs.Written.{front_read, canonical_of}
 
 -- what comes of a test, where a piece that passes is written as it stands
@@ -38,3 +41,16 @@ pub oid_written : (p : List ℕ) → IsBytes p → front_read 4 p ≡ canonical_
 oid_written p bytes =
     front_where (ltb (length p) 4) p
     (λ e. size_32.written (take 4 p) (bytes_taken 4 p bytes) (length-take-le 4 p (ltb-false (length p) 4 e)))
+
+interval_where : (b : Bool) (p : List ℕ) → (b ≡ false → interval_bytes (first_interval p) ≡ take 16 p)
+    → cond {A = Result (List ℕ) Break} b (Err Size) (Ok (take 16 p)) ≡ canonical_of intervals.canonical (read_as interval (cond {A = Result Interval Break} b (Err Size) (Ok (first_interval p))))
+interval_where true p h = refl
+interval_where false p h = ap Ok (sym (h refl))
+
+pub interval_written : (p : List ℕ) → IsBytes p → front_read 16 p ≡ canonical_of intervals.canonical (intervals.read p)
+interval_written p bytes = interval_where (ltb (length p) 16) p front
+  where
+    front : ltb (length p) 16 ≡ false → interval_bytes (first_interval p) ≡ take 16 p
+    front e =
+        let h = interval_is p bytes (ltb-false (length p) 16 e) in
+        sym (ap (take 16) h.is ∙ take_piece 16 (interval_bytes (first_interval p)) h.rest refl)

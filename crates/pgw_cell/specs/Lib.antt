@@ -7,3 +7,4 @@ pub mod Written
 pub mod Plain
 pub mod Data
 pub mod Wrote
+pub mod Networks

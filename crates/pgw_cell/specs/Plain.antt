@@ -2,12 +2,14 @@
 use Rattle.std.specs.Prelude.{◌≡◌, ℕ, false, ◌≤◌, ◌⊎◌, List, [], ◌∷◌, ◌++◌, length, Some}
 use Rattle.std.specs.Str.{IsUtf8}
 use Rattle.pgw_wire.specs.Cell.{frame}
-use Rattle.pgw_meta.specs.Shape.{Scalar, bool, char, int2, int4, int8, oid, text, bytea, uuid, money, pg_lsn, macaddr, macaddr8, date, time, timestamp, timestamptz, Shape, scalar, nullable}
+use Rattle.pgw_meta.specs.Shape.{Scalar, bool, char, int2, int4, int8, oid, text, bytea, uuid, money, pg_lsn, macaddr, macaddr8, inet, cidr, date, time, timestamp, timestamptz, interval, numeric, Shape, scalar, nullable}
 use Rattle.pgw_meta.specs.Schema.{is_nullable}
+use Rattle.pgw_scalar.specs.Networks.{Network, IsNetwork}
+use Rattle.pgw_numeric.specs.Numeric.{Numeric as Number, IsNumeric, numeric_bytes}
 use Rattle.pgw_cell.specs.Value.{Value}
 use Rattle.pgw_cell.specs.Cells.{Spells, Fits, canonical_cell}
 use Rattle.pgw_cell.specs.declared.plain.Rule.{Rule}
-use Rattle.pgw_cell.specs.declared.plain.Rule.TheVariants.{One, Two, Four, Six, Eight, Sixteen, Truth, Text, Bytes, Nothing}
+use Rattle.pgw_cell.specs.declared.plain.Rule.TheVariants.{One, Two, Four, Six, Eight, Sixteen, Truth, Text, Bytes, Inet, Cidr, Numeric, Nothing}
 use Rattle.pgw_cell.specs.declared.plain.PlainCell.{PlainCell}
 
 -- the canonical field of a value of the type, which has at most so many bytes
@@ -32,11 +34,14 @@ scalar_rule money = Eight
 scalar_rule pg_lsn = Eight
 scalar_rule macaddr = Six
 scalar_rule macaddr8 = Eight
+scalar_rule inet = Inet
+scalar_rule cidr = Cidr
 scalar_rule date = Four
 scalar_rule time = Eight
 scalar_rule timestamp = Eight
 scalar_rule timestamptz = Eight
-scalar_rule _ = Nothing
+scalar_rule interval = Sixteen
+scalar_rule numeric = Numeric
 
 abbrev pub plain_rule : Shape → Rule
 plain_rule (scalar s) = scalar_rule s
@@ -55,7 +60,11 @@ four_bytes = record { rule = Four; nullable = false }
 abbrev pub IsPlainCellOf : PlainCell → Shape → Type 0
 IsPlainCellOf cell t = cell ≡ plain_cell t
 
--- A piece that passes a rule: so many bytes, a truth of 0 or 1, UTF-8, any bytes.
+-- The piece is the field of a network with this byte of the type.
+abbrev pub IsSomeNetwork : ℕ → List ℕ → Type 0
+IsSomeNetwork type_byte piece = (n : Network) × IsNetwork type_byte piece n
+
+-- A piece that passes a rule: so many bytes, a truth of 0 or 1, UTF-8, any bytes, a network, a numeric and nothing behind it.
 abbrev pub Passes : Rule → List ℕ → Type 0
 Passes One piece = length piece ≡ 1
 Passes Two piece = length piece ≡ 2
@@ -66,6 +75,9 @@ Passes Sixteen piece = length piece ≡ 16
 Passes Truth piece = (piece ≡ 0 ∷ []) ⊎ (piece ≡ 1 ∷ [])
 Passes Text piece = IsUtf8 piece
 Passes Bytes piece = Unit {0}
+Passes Inet piece = IsSomeNetwork 0 piece
+Passes Cidr piece = IsSomeNetwork 1 piece
+Passes Numeric piece = (n : Number) × IsNumeric piece n × (numeric_bytes n ≡ piece)
 Passes Nothing piece = ⊥
 
 -- Bytes are the field of a piece of at most so many bytes, which passes, and the rest.

@@ -1,18 +1,21 @@
 -- How the values of each scalar type are spelled, a line for each type. The definitions stand in the crates of the
 -- codecs, over bytes alone; here they are told of values of columns.
-use Rattle.std.specs.Prelude.{◌≡◌, ℕ, ℤ, pos, ◌<◌, ◌^◌, Bool, List, [], length, Result, Ok, Err, FitsSigned}
+use Rattle.std.specs.Prelude.{◌≡◌, ℕ, ℤ, pos, ◌+◌, ◌<◌, ◌≤◌, ◌^◌, Bool, List, [], length, Result, Ok, Err, FitsSigned}
 use Rattle.std.specs.Int.{Width, w16, w32, w64, to_be_bytes, from_be_bytes, cast_signed}
 use Rattle.std.specs.Str.{IsUtf8}
 use mir.Val.{bits}
 use Rattle.pgw_wire.specs.declared.kind.Break.{Break}
 use Rattle.pgw_wire.specs.declared.kind.Break.TheVariants.{Size}
-use Rattle.pgw_meta.specs.Shape.{Scalar, bool, char, int2, int4, int8, oid, text, bytea, uuid, money, pg_lsn, macaddr, macaddr8, date, time, timestamp, timestamptz}
+use Rattle.pgw_meta.specs.Shape.{Scalar, bool, char, int2, int4, int8, oid, text, bytea, uuid, money, pg_lsn, macaddr, macaddr8, inet, cidr, date, time, timestamp, timestamptz, interval, numeric}
 use Rattle.pgw_scalar.specs.Sized.{BreaksSized, IsSized, read_sized}
 use Rattle.pgw_scalar.specs.Whole.{signed_bytes, IsSigned, IsUnsigned}
 use Rattle.pgw_scalar.specs.Leading.{IsBool, bool_bytes, IsChar, char_bytes, BreaksEmpty, IsOid, oid_bytes, BreaksShort, read_bool, read_char, read_oid}
 use Rattle.pgw_scalar.specs.Bytea.{IsBytea}
 use Rattle.pgw_scalar.specs.Text.{IsText, BreaksText, text_bytes, read_text}
-use Rattle.pgw_cell.specs.Value.{Value, truth, number, bytes, string, natural}
+use Rattle.pgw_scalar.specs.Networks.{Network, address_size, longest_prefix, network_bytes, IsNetwork, BreaksNetwork, read_network}
+use Rattle.pgw_time.specs.Interval.{Interval, FitsInterval, IsInterval, BreaksInterval, interval_bytes, read_interval}
+use Rattle.pgw_numeric.specs.Numeric.{Numeric, IsValue, IsNumeric, BreaksNumeric, numeric_bytes, numeric_size, read_numeric}
+use Rattle.pgw_cell.specs.Value.{Value, truth, number, bytes, string, natural, network as network_value, interval as interval_value, numeric as numeric_value}
 
 -- how the values of a scalar type are spelled
 pub record Spelling : Type 1 where
@@ -58,6 +61,18 @@ bytes_of_bytes _ = []
 abbrev pub bytes_of_string : (List ℕ → List ℕ) → Value → List ℕ
 bytes_of_string form (string s) = form s
 bytes_of_string form _ = []
+
+abbrev pub bytes_of_network : (Network → List ℕ) → Value → List ℕ
+bytes_of_network form (network_value n) = form n
+bytes_of_network form _ = []
+
+abbrev pub bytes_of_interval : (Interval → List ℕ) → Value → List ℕ
+bytes_of_interval form (interval_value x) = form x
+bytes_of_interval form _ = []
+
+abbrev pub bytes_of_numeric : (Numeric → List ℕ) → Value → List ℕ
+bytes_of_numeric form (numeric_value n) = form n
+bytes_of_numeric form _ = []
 
 -- whole numbers of this width, which have so many bytes
 abbrev pub signed : Width → ℕ → Spelling
@@ -143,6 +158,50 @@ byteas = record {
   read = λ p. Ok (bytes p);
 }
 
+-- The address has as many bytes as its family says, and the prefix is no longer.
+pub record IsAddress (n : Network) : Type 0 where
+  pub many : length n.address ≡ address_size n.six
+  pub fits : n.prefix ≤ longest_prefix n.six
+
+abbrev pub network_size : Value → ℕ
+network_size (network_value n) = 4 + address_size n.six
+network_size _ = 0
+
+-- networks in fields with this byte of the type
+abbrev pub networks : ℕ → Spelling
+networks type_byte = record {
+  Has = λ v. (n : Network) × (v ≡ network_value n) × IsAddress n;
+  Spells = SpellsAs network_value (IsNetwork type_byte);
+  Breaks = BreaksNetwork type_byte;
+  canonical = bytes_of_network (network_bytes type_byte);
+  size = network_size;
+  read = λ p. read_as network_value (read_network type_byte p);
+}
+
+abbrev pub intervals : Spelling
+intervals = record {
+  Has = λ v. (x : Interval) × (v ≡ interval_value x) × FitsInterval x;
+  Spells = SpellsAs interval_value IsInterval;
+  Breaks = BreaksInterval;
+  canonical = bytes_of_interval interval_bytes;
+  size = λ v. 16;
+  read = λ p. read_as interval_value (read_interval p);
+}
+
+abbrev pub size_of_numeric : Value → ℕ
+size_of_numeric (numeric_value n) = numeric_size n
+size_of_numeric _ = 0
+
+abbrev pub numerics : Spelling
+numerics = record {
+  Has = λ v. (n : Numeric) × (v ≡ numeric_value n) × IsValue n;
+  Spells = SpellsAs numeric_value IsNumeric;
+  Breaks = BreaksNumeric;
+  canonical = bytes_of_numeric numeric_bytes;
+  size = size_of_numeric;
+  read = λ p. read_as numeric_value (read_numeric p);
+}
+
 -- of a type that is not built yet, which `IsBuilt` leaves out
 abbrev pub no_spelling : Spelling
 no_spelling = record {
@@ -168,8 +227,11 @@ spelling money = signed w64 8
 spelling pg_lsn = unsigned w64 8
 spelling macaddr = sized 6
 spelling macaddr8 = sized 8
+spelling inet = networks 0
+spelling cidr = networks 1
 spelling date = signed w32 4
 spelling time = signed w64 8
 spelling timestamp = signed w64 8
 spelling timestamptz = signed w64 8
-spelling _ = no_spelling
+spelling interval = intervals
+spelling numeric = numerics

@@ -6,8 +6,10 @@
 
 mod byte_list;
 mod datum;
+mod digit_list;
 pub mod laws;
 mod measure;
+mod network;
 mod piece;
 mod plain;
 mod read;
@@ -17,6 +19,7 @@ mod write;
 
 pub use byte_list::ByteList;
 pub use datum::Datum;
+pub use digit_list::DigitList;
 pub use measure::{MeasureFault, measure_cell};
 pub use plain::PlainCell;
 pub use read::{CellFault, read_cell};

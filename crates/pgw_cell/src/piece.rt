@@ -2,12 +2,18 @@ ghost use Rattle.std.specs.Prelude.{◌≡◌, ◌<◌, ◌≤◌, ◌+◌, ◌+
 ghost use Rattle.pgw_scalar.specs.Sized.{read_sized};
 ghost use Rattle.pgw_scalar.specs.Text.{read_text};
 ghost use Rattle.pgw_meta.specs.Types.{shape};
-ghost use Rattle.pgw_meta.specs.Shape.{scalar, bool};
-ghost use Rattle.pgw_cell.specs.Written.{bytes_of, written_bytes, canonical_read, front_read};
+ghost use Rattle.pgw_meta.specs.Shape.{scalar, bool, numeric};
+ghost use Rattle.pgw_scalar.specs.Networks.{read_network};
+ghost use Rattle.pgw_cell.specs.Written.{bytes_of, written_bytes, canonical_read, front_read, network_read};
 
+use crate::network::network_field;
 use crate::utf8::is_text;
 use pgw_meta::PgType;
+use pgw_numeric::field::{Front, canonical_front};
 use pgw_wire::{Break, ByteBuffer};
+
+/// The field of what is not a number.
+pub(crate) const NOT_A_NUMBER: [u8; 8] = [0, 0, 0, 0, 0xc0, 0, 0, 0];
 
 /// What the value that a piece spells is written as.
 #[derive(Clone, Copy)]
@@ -16,6 +22,8 @@ pub(crate) enum Canonical<'a> {
     Truth(bool),
     /// Bytes that stand in the piece.
     Bytes(&'a [u8]),
+    /// The field of a numeric that is not a number.
+    NotANumber,
 }
 
 impl<'a> Canonical<'a> {
@@ -27,6 +35,7 @@ impl<'a> Canonical<'a> {
         match self {
             Canonical::Truth(_) => 1,
             Canonical::Bytes(bytes) => bytes.len(),
+            Canonical::NotANumber => NOT_A_NUMBER.len(),
         }
     }
 
@@ -40,6 +49,7 @@ impl<'a> Canonical<'a> {
         match self {
             Canonical::Truth(truth) => out.push_reserved(&[u8::from(truth)]),
             Canonical::Bytes(bytes) => out.push_reserved(bytes),
+            Canonical::NotANumber => out.push_reserved(&NOT_A_NUMBER),
         }
     }
 }
@@ -95,6 +105,28 @@ fn text(piece: &[u8]) -> Result<Canonical<'_>, Break>
     }
 }
 
+/// The whole piece, where it is the field of a network with this byte of the type.
+#[inline(always)]
+fn network(type_byte: u8, piece: &[u8]) -> Result<Canonical<'_>, Break>
+    ensures { written_bytes result ≡ network_read type_byte piece.now }
+{
+    match network_field(type_byte, piece) {
+        Ok(_) => Ok(Canonical::Bytes(piece)),
+        Err(kind) => Err(kind),
+    }
+}
+
+#[inline(always)]
+fn numeric(piece: &[u8]) -> Result<Canonical<'_>, Break>
+    ensures { written_bytes result ≡ canonical_read (scalar numeric) piece.now }
+{
+    match canonical_front(piece) {
+        Ok(Front::Number(field)) => Ok(Canonical::Bytes(field)),
+        Ok(Front::NaN) => Ok(Canonical::NotANumber),
+        Err(kind) => Err(kind),
+    }
+}
+
 /// What the value that a piece of the type spells is written as, or the kind in which the piece breaks.
 #[inline(always)]
 pub(crate) fn written<'a>(t: &PgType, piece: &'a [u8]) -> Result<Canonical<'a>, Break>
@@ -114,10 +146,14 @@ pub(crate) fn written<'a>(t: &PgType, piece: &'a [u8]) -> Result<Canonical<'a>, 
         PgType::Lsn => whole(8, piece),
         PgType::Mac => whole(6, piece),
         PgType::Mac8 => whole(8, piece),
+        PgType::Inet => network(0, piece),
+        PgType::Cidr => network(1, piece),
         PgType::Date => whole(4, piece),
         PgType::Time => whole(8, piece),
         PgType::Timestamp => whole(8, piece),
         PgType::Timestamptz => whole(8, piece),
+        PgType::Interval => front(16, piece),
+        PgType::Numeric => numeric(piece),
         PgType::Nullable(part) => written(part, piece),
         _ => Err(Break::Size),
     }

@@ -2,11 +2,13 @@ ghost use Rattle.std.specs.Prelude.{◌≡◌, ◌≤◌, ◌++◌, List, ℕ, l
 ghost use Rattle.pgw_wire.specs.Cell.{frame};
 ghost use Rattle.pgw_meta.specs.Shape.{Shape};
 ghost use Rattle.pgw_meta.specs.Types.{shape};
-ghost use Rattle.pgw_cell.specs.Plain.{plain_rule, four_bytes, IsPlainCellOf, IsPlainField, Passes, IsPassedBefore};
+ghost use Rattle.pgw_cell.specs.Plain.{plain_rule, four_bytes, IsPlainCellOf, IsPlainField, IsSomeNetwork, Passes, IsPassedBefore};
 
 use crate::measure::is_nullable;
+use crate::network::network_field;
 use crate::utf8::is_text;
 use pgw_meta::PgType;
+use pgw_numeric::field::{Sign, sign_of, take_parts};
 use pgw_wire::{take_piece, take_u32};
 
 /// The length -1 of a null.
@@ -34,6 +36,12 @@ enum Rule {
     Text,
     /// Any bytes.
     Bytes,
+    /// The field of an `inet`.
+    Inet,
+    /// The field of a `cidr`.
+    Cidr,
+    /// The field of a numeric that is written as it stands.
+    Numeric,
     /// None that is known.
     Nothing,
 }
@@ -100,8 +108,12 @@ fn rule_of(t: &PgType) -> Rule
         PgType::Lsn => Rule::Eight,
         PgType::Mac => Rule::Six,
         PgType::Mac8 => Rule::Eight,
+        PgType::Inet => Rule::Inet,
+        PgType::Cidr => Rule::Cidr,
         PgType::Date => Rule::Four,
         PgType::Time | PgType::Timestamp | PgType::Timestamptz => Rule::Eight,
+        PgType::Interval => Rule::Sixteen,
+        PgType::Numeric => Rule::Numeric,
         PgType::Nullable(part) => rule_of(part),
         _ => Rule::Nothing,
     }
@@ -122,6 +134,9 @@ fn behind_piece(rule: Rule, most: u32, bytes: &[u8]) -> Option<&[u8]>
         Rule::Truth => behind_truth(most, bytes),
         Rule::Text => behind_text(most, bytes),
         Rule::Bytes => behind_bytes(most, bytes),
+        Rule::Inet => behind_network(0, most, bytes),
+        Rule::Cidr => behind_network(1, most, bytes),
+        Rule::Numeric => behind_numeric(most, bytes),
         Rule::Nothing => None,
     }
 }
@@ -178,6 +193,46 @@ fn behind_bytes(most: u32, bytes: &[u8]) -> Option<&[u8]>
 {
     let (_piece, rest) = front_piece(most, bytes)?;
     Some(rest)
+}
+
+#[inline(always)]
+fn behind_network(type_byte: u8, most: u32, bytes: &[u8]) -> Option<&[u8]>
+    ensures { IfSome result (λ rest. IsPassedBefore most (IsSomeNetwork type_byte) bytes.now rest.now) }
+{
+    let (piece, rest) = front_piece(most, bytes)?;
+    if network_field(type_byte, piece).is_ok() {
+        Some(rest)
+    } else {
+        None
+    }
+}
+
+/// Whether the piece is the field of a numeric and is written as it stands.
+#[inline(always)]
+fn is_plain_numeric(piece: &[u8]) -> bool
+    ensures { result ≡ true → Passes Rule.Numeric piece.now }
+{
+    let Some((header, _)) = take_parts(piece) else {
+        return false;
+    };
+    match sign_of(header.sign) {
+        Some(Sign::Positive) => piece.len() == header.size(),
+        Some(Sign::Negative) => piece.len() == header.size(),
+        Some(Sign::NaN) => piece.len() == 8 && header.weight == 0 && header.scale == 0,
+        None => false,
+    }
+}
+
+#[inline(always)]
+fn behind_numeric(most: u32, bytes: &[u8]) -> Option<&[u8]>
+    ensures { IfSome result (λ rest. IsPassedBefore most (Passes Rule.Numeric) bytes.now rest.now) }
+{
+    let (piece, rest) = front_piece(most, bytes)?;
+    if is_plain_numeric(piece) {
+        Some(rest)
+    } else {
+        None
+    }
 }
 
 /// What stands behind the null at the front, which is none where the column has no nulls.

@@ -6,7 +6,10 @@ ghost use Rattle.pgw_meta.specs.Types.{shape};
 ghost use Rattle.pgw_scalar.specs.Sized.{read_sized};
 ghost use Rattle.pgw_scalar.specs.Leading.{read_bool, read_char, read_oid};
 ghost use Rattle.pgw_scalar.specs.Text.{read_text};
-ghost use Rattle.pgw_cell.specs.Value.{Value, truth, number, natural, string, bytes};
+ghost use Rattle.pgw_scalar.specs.Networks.{read_network};
+ghost use Rattle.pgw_time.specs.Interval.{read_interval};
+ghost use Rattle.pgw_numeric.specs.Numeric.{read_numeric};
+ghost use Rattle.pgw_cell.specs.Value.{Value, truth, number, natural, string, bytes, network, interval, numeric};
 ghost use Rattle.pgw_cell.specs.Built.{IsBuilt};
 ghost use Rattle.pgw_cell.specs.Spellings.{read_as};
 ghost use Rattle.pgw_cell.specs.Pieces.{read_piece};
@@ -15,11 +18,18 @@ ghost use Rattle.pgw_cell.specs.Data.{value_of, takes_memory, AnswersAs};
 ghost use Rattle.pgw_cell.specs.Written.{AreBytes};
 
 use crate::measure::is_nullable;
+use crate::network::network_field;
 use crate::piece::are_bytes;
-use crate::{ByteList, Datum};
+use crate::{ByteList, Datum, DigitList};
+use pgw_meta::deserialize::FromSql;
 use pgw_meta::{NameText, PgType};
-use pgw_wire::{Break, NoMemory as NoMemoryLeft, RawCell};
+use pgw_numeric::PgNumeric;
+use pgw_numeric::sql_types::Numeric;
+use pgw_time::PgInterval;
+use pgw_time::sql_types::Interval;
+use pgw_wire::{Break, NoMemory as NoMemoryLeft, PgValue, RawCell, SqlError};
 use std::alloc::Global;
+use std::num::NonZeroU32;
 use thiserror::Error;
 
 /// Why no value was read from a cell.
@@ -158,6 +168,74 @@ fn read_sized(alloc: Global, size: usize, piece: &[u8]) -> Result<Datum, CellFau
     }
 }
 
+fn read_network(alloc: Global, type_byte: u8, piece: &[u8]) -> Result<Datum, CellFault>
+    ensures { AnswersAs result (read_as network (read_network type_byte piece.now)) }
+{
+    match network_field(type_byte, piece) {
+        Ok(field) => Ok(Datum::Network {
+            six: field.six,
+            prefix: field.prefix,
+            address: ByteList::from_slice(alloc, field.address)?,
+        }),
+        Err(kind) => Err(CellFault::Break(kind)),
+    }
+}
+
+/// The piece for a codec that does not look at the type of the field.
+fn value_of_piece(piece: &[u8]) -> PgValue<'_>
+    ensures { result.raw_value.now ≡ piece.now }
+{
+    PgValue::new(piece, NonZeroU32::MIN)
+}
+
+fn read_interval(alloc: Global, piece: &[u8]) -> Result<Datum, CellFault>
+    ensures { AnswersAs result (read_as interval (read_interval piece.now)) }
+{
+    match <PgInterval as FromSql<Interval>>::from_sql(alloc, value_of_piece(piece)) {
+        Ok(value) => Ok(Datum::Interval {
+            microseconds: value.microseconds,
+            days: value.days,
+            months: value.months,
+        }),
+        Err(_) => Err(CellFault::Break(Break::Size)),
+    }
+}
+
+fn read_numeric(alloc: Global, piece: &[u8]) -> Result<Datum, CellFault>
+    ensures { AnswersAs result (read_as numeric (read_numeric piece.now)) }
+{
+    match <PgNumeric as FromSql<Numeric>>::from_sql(alloc, value_of_piece(piece)) {
+        Ok(
+            PgNumeric::Positive {
+                weight,
+                scale,
+                digits,
+            },
+        ) => Ok(Datum::Numeric {
+            negative: false,
+            weight,
+            scale,
+            digits: DigitList::from_vec(digits),
+        }),
+        Ok(
+            PgNumeric::Negative {
+                weight,
+                scale,
+                digits,
+            },
+        ) => Ok(Datum::Numeric {
+            negative: true,
+            weight,
+            scale,
+            digits: DigitList::from_vec(digits),
+        }),
+        Ok(PgNumeric::NaN) => Ok(Datum::NotANumber),
+        Err(SqlError::NoMemory) => Err(CellFault::NoMemory),
+        Err(SqlError::InvalidSign(_)) => Err(CellFault::Break(Break::Sign)),
+        Err(_) => Err(CellFault::Break(Break::Size)),
+    }
+}
+
 fn read_piece(alloc: Global, t: &PgType, piece: &[u8]) -> Result<Datum, CellFault>
     ensures { AnswersAs result (read_piece (shape t.now) piece.now) }
 {
@@ -175,8 +253,12 @@ fn read_piece(alloc: Global, t: &PgType, piece: &[u8]) -> Result<Datum, CellFaul
         PgType::Lsn => natural(read_lsn(piece)),
         PgType::Mac => read_sized(alloc, 6, piece),
         PgType::Mac8 => read_sized(alloc, 8, piece),
+        PgType::Inet => read_network(alloc, 0, piece),
+        PgType::Cidr => read_network(alloc, 1, piece),
         PgType::Date => number(read_int4(piece)),
         PgType::Time | PgType::Timestamp | PgType::Timestamptz => number(read_int8(piece)),
+        PgType::Interval => read_interval(alloc, piece),
+        PgType::Numeric => read_numeric(alloc, piece),
         PgType::Nullable(part) => read_piece(alloc, part, piece),
         _ => Err(CellFault::Break(Break::Size)),
     }
@@ -202,7 +284,7 @@ fn read(alloc: Global, t: &PgType, cell: RawCell<'_>) -> Result<Datum, CellFault
 }
 
 /// The value that the cell spells. `Break` exactly where the cell breaks in this kind. `NoMemory` only where it spells
-/// a value that takes memory: a text, or bytes.
+/// a value that takes memory: a text, bytes, a network, or a numeric that is a number.
 pub fn read_cell(alloc: Global, t: &PgType, cell: RawCell<'_>) -> Result<Datum, CellFault>
     requires { IsBuilt (shape t.now) }
     ensures ok { IfOk result (λ value. Spells (shape t.now) (cell_of cell.entry) (value_of value)) }

@@ -2,8 +2,8 @@ ghost use Rattle.pgw_meta.specs.Types.{shape};
 ghost use Rattle.pgw_cell.specs.Built.{IsBuilt};
 
 use crate::{
-    ByteList, CellFault, Datum, MeasureFault, PlainCell, WriteCellFault, laws, measure_cell,
-    read_cell, rewrite_cell, write_cell,
+    ByteList, CellFault, Datum, DigitList, MeasureFault, PlainCell, WriteCellFault, laws,
+    measure_cell, read_cell, rewrite_cell, write_cell,
 };
 use pgw_meta::{FoundOids, NameText, PgType};
 use pgw_wire::{Break, ByteBuffer, RawCell};
@@ -56,6 +56,38 @@ fn pieces_are_measured(rt: HostRuntime) {
     assert!(rt; answers == expected);
 }
 
+const HOST: &[u8] = b"\x02\x18\0\x04\xc0\xa8\0\x01";
+
+#[test]
+fn pieces_of_several_parts_are_measured(rt: HostRuntime) {
+    let answers = [
+        measured(&PgType::Inet, HOST),
+        measured(&PgType::Cidr, HOST),
+        measured(&PgType::Inet, b"\x02\x21\0\x04\xc0\xa8\0\x01"),
+        measured(&PgType::Cidr, b"\x03\0\x01\x100123456789abcdef"),
+        measured(&PgType::Interval, b"0123456789abcdef+"),
+        measured(&PgType::Interval, b"0123456789abcde"),
+        measured(&PgType::Numeric, b"\0\x01\0\0\x40\0\0\0\0\x07\xaa"),
+        measured(&PgType::Numeric, b"\0\x01\0\x05\xc0\0\0\x02\0\x07"),
+        measured(&PgType::Numeric, b"\0\0\0\0\xd0\0\0\0"),
+        measured(&PgType::Numeric, b"\0\x02\0\0\xd0\0\0\0\0\x07"),
+    ];
+    let size = Err(MeasureFault::Break(Break::Size));
+    let expected = [
+        Ok(12),
+        Err(MeasureFault::Break(Break::Family)),
+        Err(MeasureFault::Break(Break::Prefix)),
+        Err(MeasureFault::TooLong),
+        Ok(20),
+        size,
+        Ok(14),
+        Ok(12),
+        Err(MeasureFault::Break(Break::Sign)),
+        size,
+    ];
+    assert!(rt; answers == expected);
+}
+
 /// Why the cell is not read.
 fn fault(alloc: Global, t: &PgType, cell: RawCell<'_>) -> Option<CellFault>
     requires { IsBuilt (shape t.now) }
@@ -75,11 +107,20 @@ fn cells_break_where_they_are_read(rt: HostRuntime) -> Result<(), Fail> {
         fault(alloc, &PgType::Int4, RawCell::Null),
         fault(alloc, &number, RawCell::Null),
         fault(alloc, &number, RawCell::Piece(b"\0\0\0\x2a")),
+        fault(alloc, &PgType::Cidr, RawCell::Piece(HOST)),
+        fault(alloc, &PgType::Interval, RawCell::Piece(HOST)),
+        fault(
+            alloc,
+            &PgType::Numeric,
+            RawCell::Piece(b"\0\0\0\0\xd0\0\0\0"),
+        ),
     ];
     let size = Some(CellFault::Break(Break::Size));
     let utf8 = Some(CellFault::Break(Break::Utf8));
     let null = Some(CellFault::Break(Break::Null));
-    assert!(rt; faults == [size, size, size, utf8, null, None, None]);
+    let family = Some(CellFault::Break(Break::Family));
+    let sign = Some(CellFault::Break(Break::Sign));
+    assert!(rt; faults == [size, size, size, utf8, null, None, None, family, size, sign]);
     Ok(())
 }
 
@@ -115,6 +156,28 @@ const CANONICAL: &[u8] = b"\0\0\0\x01\x01\0\0\0\x01A\0\0\0\x02\xff\xfe\
     \0\0\0\x04\xff\0\0\x2a\0\0\0\x08\xff\0\0\0\0\0\0\x01\0\0\0\0\
     \0\0\0\x100123456789abcdef\0\0\0\x02\xc3\xa9\xff\xff\xff\xff";
 
+const PARTS: &[u8] = b"\0\0\0\x08\x02\x18\0\x04\xc0\xa8\0\x01\
+    \0\0\0\x100123456789abcdef\
+    \0\0\0\x0a\0\x01\xff\xff\x40\0\0\x04\0\x07\
+    \0\0\0\x08\0\0\0\0\xc0\0\0\0";
+
+#[test]
+fn cells_of_several_parts_are_written_in_their_canonical_form(rt: HostRuntime) -> Result<(), Fail> {
+    let alloc = rt.alloc();
+    let mut both = Both {
+        found: FoundOids::new(alloc),
+        rewritten: ByteBuffer::new(alloc),
+        written: ByteBuffer::new(alloc),
+    };
+    both.piece(&PgType::Inet, HOST)?;
+    both.piece(&PgType::Interval, b"0123456789abcdef+")?;
+    both.piece(&PgType::Numeric, b"\0\x01\xff\xff\x40\0\0\x04\0\x07\xaa")?;
+    both.piece(&PgType::Numeric, b"\0\x01\0\x05\xc0\0\0\x02\0\x07")?;
+    let bytes = (both.rewritten.as_bytes(), both.written.as_bytes());
+    assert!(rt; bytes == (PARTS, PARTS));
+    Ok(())
+}
+
 #[test]
 fn cells_are_written_in_their_canonical_form(rt: HostRuntime) -> Result<(), Fail> {
     let alloc = rt.alloc();
@@ -141,6 +204,31 @@ fn cells_are_written_in_their_canonical_form(rt: HostRuntime) -> Result<(), Fail
 /// How many bytes stand behind the field at the front that is canonical as it stands, of at most 4 bytes.
 fn behind(t: &PgType, bytes: &[u8]) -> Option<usize> {
     Some(PlainCell::of(t).behind_field(4, bytes)?.len())
+}
+
+#[test]
+fn pieces_of_several_parts_pass_as_they_stand(rt: HostRuntime) {
+    let cidr = PlainCell::of(&PgType::Cidr);
+    let inet = PlainCell::of(&PgType::Inet);
+    let interval = PlainCell::of(&PgType::Interval);
+    let numeric = PlainCell::of(&PgType::Numeric);
+    let host = b"\0\0\0\x08\x02\x18\0\x04\xc0\xa8\0\x01";
+    let seven = b"\0\0\0\x0a\0\x01\0\0\x40\0\0\0\0\x07";
+    let longer = b"\0\0\0\x0b\0\x01\0\0\x40\0\0\0\0\x07\xaa";
+    let no_number = b"\0\0\0\x08\0\0\0\0\xc0\0\0\0";
+    let scaled = b"\0\0\0\x08\0\0\0\0\xc0\0\0\x02";
+    let passes = [
+        inet.behind_field(16, host).is_some(),
+        cidr.behind_field(16, host).is_some(),
+        interval
+            .behind_field(16, b"\0\0\0\x100123456789abcdef")
+            .is_some(),
+        numeric.behind_field(16, seven).is_some(),
+        numeric.behind_field(16, longer).is_some(),
+        numeric.behind_field(16, no_number).is_some(),
+        numeric.behind_field(16, scaled).is_some(),
+    ];
+    assert!(rt; passes == [true, false, true, true, false, true, false]);
 }
 
 #[test]
@@ -182,6 +270,11 @@ fn values_own_their_bytes(rt: HostRuntime) -> Result<(), Fail> {
     list.push(7)?;
     assert!(rt; (list.len(), list.get(0), list.get(1)) == (1, Some(&7), None));
     assert!(rt; ByteList::from_slice(alloc, &[7])?.as_slice() == list.as_slice());
+    let mut digits = DigitList::new(alloc);
+    digits.push(7)?;
+    let first = (digits.len(), digits.get(0), digits.get(1));
+    assert!(rt; first == (1, Some(&7), None));
+    assert!(rt; digits.as_slice() == [7].as_slice());
     let text = Datum::Text(NameText::from_str(alloc, "abc")?);
     let found = FoundOids::new(alloc);
     let mut out = ByteBuffer::new(alloc);

@@ -1,15 +1,21 @@
-ghost use Rattle.std.specs.Prelude.{◌≡◌, ◌↔◌, ◌≤◌, ◌+◌, ◌++◌, ℕ, ℤ, Bool, List, length, None, Some, Err, IsOk, OnOk, OnErr};
+ghost use Rattle.std.specs.Prelude.{◌≡◌, ◌↔◌, ◌<◌, ◌≤◌, ◌^◌, ◌+◌, ◌*◌, ◌++◌, ℕ, ℤ, Bool, List, length, None, Some, Err, IsOk, OnOk, OnErr};
 ghost use Rattle.pgw_wire.specs.Cell.{frame};
 ghost use Rattle.pgw_meta.specs.Types.{shape};
-ghost use Rattle.pgw_cell.specs.Value.{truth, number, bytes, string};
+ghost use Rattle.pgw_time.specs.Interval.{Interval, interval_bytes};
+ghost use Rattle.pgw_numeric.specs.Numeric.{number_sign, header_bytes, digit_bytes, field_bytes};
+ghost use Rattle.pgw_numeric.specs.Field.{bytes_of_header};
+ghost use Rattle.pgw_cell.specs.Value.{truth, number, bytes, string, interval};
+ghost use Rattle.pgw_cell.specs.Spellings.{networks, numerics, bytes_of_interval};
 ghost use Rattle.pgw_cell.specs.Pieces.{HasPiece, canonical_piece};
 ghost use Rattle.pgw_cell.specs.Cells.{HasType, Fits, canonical_cell};
 ghost use Rattle.pgw_cell.specs.Data.{value_of};
-ghost use Rattle.pgw_cell.specs.Wrote.{Wrote};
+ghost use Rattle.pgw_cell.specs.Wrote.{Wrote, Began};
 
 use crate::Datum;
+use crate::piece::NOT_A_NUMBER;
 use crate::rewrite::NULL;
 use pgw_meta::{FoundOids, PgType};
+use pgw_numeric::field::{Header, Sign};
 use pgw_wire::{ByteBuffer, NoMemory as NoMemoryLeft};
 use thiserror::Error;
 
@@ -40,7 +46,7 @@ fn truth_of(value: &Datum) -> bool
 {
     match value {
         Datum::Truth(truth) => *truth,
-        Datum::Null | Datum::Number(_) | Datum::Bytes(_) | Datum::Text(_) => unreachable!(),
+        _ => unreachable!(),
     }
 }
 
@@ -50,7 +56,7 @@ fn number_of(value: &Datum) -> i128
 {
     match value {
         Datum::Number(number) => *number,
-        Datum::Null | Datum::Truth(_) | Datum::Bytes(_) | Datum::Text(_) => unreachable!(),
+        _ => unreachable!(),
     }
 }
 
@@ -60,7 +66,7 @@ fn bytes_of(value: &Datum) -> &[u8]
 {
     match value {
         Datum::Bytes(bytes) => bytes.as_slice(),
-        Datum::Null | Datum::Truth(_) | Datum::Number(_) | Datum::Text(_) => unreachable!(),
+        _ => unreachable!(),
     }
 }
 
@@ -70,8 +76,21 @@ fn text_of(value: &Datum) -> &[u8]
 {
     match value {
         Datum::Text(text) => text.as_str().as_bytes(),
-        Datum::Null | Datum::Truth(_) | Datum::Number(_) | Datum::Bytes(_) => unreachable!(),
+        _ => unreachable!(),
     }
+}
+
+/// Appends the length of a piece, and makes room for its bytes.
+fn begin_field(size: usize, field_max: u32, out: &mut ByteBuffer) -> Result<(), WriteCellFault>
+    requires { field_max ≤ 2147483647 }
+    ensures { Began field_max size result out.old out.new }
+{
+    if size > field_max as usize {
+        return Err(WriteCellFault::TooLong);
+    }
+    out.reserve(4 + size)?;
+    out.push_reserved(&(size as u32).to_be_bytes());
+    Ok(())
 }
 
 /// Appends the length and the bytes of a piece, both or none.
@@ -79,13 +98,130 @@ fn write_field(piece: &[u8], field_max: u32, out: &mut ByteBuffer) -> Result<(),
     requires { field_max ≤ 2147483647 }
     ensures { Wrote field_max (Some piece.now) result out.old out.new }
 {
-    if piece.len() > field_max as usize {
-        return Err(WriteCellFault::TooLong);
-    }
-    out.reserve(4 + piece.len())?;
-    out.push_reserved(&(piece.len() as u32).to_be_bytes());
+    begin_field(piece.len(), field_max, out)?;
     out.push_reserved(piece);
     Ok(())
+}
+
+fn write_network(
+    type_byte: u8,
+    value: &Datum,
+    field_max: u32,
+    out: &mut ByteBuffer,
+) -> Result<(), WriteCellFault>
+    requires has { (networks type_byte).Has (value_of value.now) }
+    requires max { field_max ≤ 2147483647 }
+    ensures { Wrote field_max (Some ((networks type_byte).canonical (value_of value.now))) result out.old out.new }
+{
+    match value {
+        Datum::Network {
+            six,
+            prefix,
+            address,
+        } => {
+            let (family, size) = if *six { (3, 16) } else { (2, 4) };
+            begin_field(4 + address.len(), field_max, out)?;
+            out.push_reserved(&[family, *prefix, type_byte, size]);
+            out.push_reserved(address.as_slice());
+            Ok(())
+        }
+        _ => unreachable!(),
+    }
+}
+
+/// The bytes of the three numbers of an interval.
+fn interval_bytes(value: &Datum) -> [u8; 16]
+    requires { (x : Interval) × (value_of value.now ≡ interval x) }
+    ensures { result ≡ bytes_of_interval interval_bytes (value_of value.now) }
+{
+    match value {
+        Datum::Interval {
+            microseconds,
+            days,
+            months,
+        } => {
+            let [a, b, c, d, e, f, g, h] = microseconds.to_be_bytes();
+            let [i, j, k, l] = days.to_be_bytes();
+            let [m, n, o, p] = months.to_be_bytes();
+            [a, b, c, d, e, f, g, h, i, j, k, l, m, n, o, p]
+        }
+        _ => unreachable!(),
+    }
+}
+
+/// Appends the digits into the room that was made for them.
+fn push_digits(digits: &[i16], out: &mut ByteBuffer)
+    requires { 2 * length digits.now ≤ out.old.spare }
+    ensures bytes { out.new.bytes ≡ out.old.bytes ++ digit_bytes digits.now }
+    ensures spare { out.new.spare + 2 * length digits.now ≡ out.old.spare }
+{
+    for digit in digits {
+        out.push_reserved(&digit.to_be_bytes());
+    }
+}
+
+/// What stands in front of the digits of a number.
+fn header(negative: bool, weight: i16, scale: u16, digits: &[i16]) -> Header
+    requires { length digits.now < 2 ^ 16 }
+    ensures bytes { bytes_of_header result ≡ header_bytes (length digits.now) weight (number_sign negative) scale }
+    ensures count { result.count ≡ length digits.now }
+{
+    let sign = if negative {
+        Sign::Negative
+    } else {
+        Sign::Positive
+    };
+    Header {
+        count: digits.len() as u16,
+        weight,
+        sign: sign.word(),
+        scale,
+    }
+}
+
+/// Appends the field of a number.
+fn write_number(
+    negative: bool,
+    weight: i16,
+    scale: u16,
+    digits: &[i16],
+    field_max: u32,
+    out: &mut ByteBuffer,
+) -> Result<(), WriteCellFault>
+    requires few { length digits.now < 2 ^ 16 }
+    requires max { field_max ≤ 2147483647 }
+    ensures { Wrote field_max (Some (field_bytes weight (number_sign negative) scale digits.now)) result
+        out.old out.new }
+{
+    let header = header(negative, weight, scale, digits);
+    begin_field(header.size(), field_max, out)?;
+    out.push_reserved(&header.to_bytes());
+    push_digits(digits, out);
+    Ok(())
+}
+
+fn write_numeric(value: &Datum, field_max: u32, out: &mut ByteBuffer) -> Result<(), WriteCellFault>
+    requires has { numerics.Has (value_of value.now) }
+    requires max { field_max ≤ 2147483647 }
+    ensures { Wrote field_max (Some (numerics.canonical (value_of value.now))) result out.old out.new }
+{
+    match value {
+        Datum::Numeric {
+            negative,
+            weight,
+            scale,
+            digits,
+        } => write_number(
+            *negative,
+            *weight,
+            *scale,
+            digits.as_slice(),
+            field_max,
+            out,
+        ),
+        Datum::NotANumber => write_field(&NOT_A_NUMBER, field_max, out),
+        _ => unreachable!(),
+    }
 }
 
 fn write_piece(
@@ -112,10 +248,14 @@ fn write_piece(
         PgType::Lsn => write_field(&(number_of(value) as u64).to_be_bytes(), field_max, out),
         PgType::Mac => write_field(bytes_of(value), field_max, out),
         PgType::Mac8 => write_field(bytes_of(value), field_max, out),
+        PgType::Inet => write_network(0, value, field_max, out),
+        PgType::Cidr => write_network(1, value, field_max, out),
         PgType::Date => write_field(&(number_of(value) as i32).to_be_bytes(), field_max, out),
         PgType::Time | PgType::Timestamp | PgType::Timestamptz => {
             write_field(&(number_of(value) as i64).to_be_bytes(), field_max, out)
         }
+        PgType::Interval => write_field(&interval_bytes(value), field_max, out),
+        PgType::Numeric => write_numeric(value, field_max, out),
         PgType::Nullable(part) => write_piece(part, value, field_max, out),
         _ => unreachable!(),
     }
@@ -140,9 +280,7 @@ fn write(
 {
     match value {
         Datum::Null => write_null(field_max, out),
-        Datum::Truth(_) | Datum::Number(_) | Datum::Bytes(_) | Datum::Text(_) => {
-            write_piece(t, value, field_max, out)
-        }
+        _ => write_piece(t, value, field_max, out),
     }
 }
 

@@ -4,7 +4,7 @@ use Rattle.std.specs.List.{flat_map}
 use Rattle.std.proofs.lemmas.Grind.{flat_map-append}
 use Rattle.pgw_copy.specs.Format.{IsField}
 use Rattle.pgw_meta.specs.Shape.{Shape, scalar, int4, text, nullable}
-use Rattle.pgw_cell.specs.Value.{Value, null, truth, number, bytes, string}
+use Rattle.pgw_cell.specs.Value.{Value, null, truth, number, bytes, string, network, interval, numeric}
 use Rattle.pgw_tree.specs.Canonical.{canonical_row}
 use Rattle.pgw_tree.specs.Copying.{IsValuesRow}
 use Rattle.pgw_tree.specs.Plain.{IsPlainRow, ArePlainRows}
@@ -80,6 +80,9 @@ other_not_plain values p = none values p.is
     none (number n ∷ vs) e = omega (arith, ap (λ l. get_or l 2 0) e)
     none (bytes b ∷ vs) e = omega (arith, ap (λ l. get_or l 2 0) e)
     none (string s ∷ vs) e = omega (arith, ap (λ l. get_or l 2 0) e)
+    none (network x ∷ vs) e = omega (arith, ap (λ l. get_or l 2 0) e)
+    none (interval x ∷ vs) e = omega (arith, ap (λ l. get_or l 2 0) e)
+    none (numeric x ∷ vs) e = omega (arith, ap (λ l. get_or l 2 0) e)
 
 -- It is respelled as the second row.
 pub respelled : AreRespelled 4 columns 1 second_row other_row

@@ -1,7 +1,6 @@
 -- What is known of the types of columns whose rows are copied.
-use Rattle.std.specs.Prelude.{List, map}
+use Rattle.std.specs.Prelude.{List, map, refl}
 use Rattle.std.specs.List.{AllByRecursion, AllByRecursion-prop}
-use mathlib.Core.Bool.{Bool-set}
 use Rattle.pgw_meta.specs.Shape.{Shape, scalar, nullable, array, range, multirange, composite, named}
 use Rattle.pgw_cell.specs.Built.{IsBuilt}
 use Rattle.pgw_cell.specs.Plain.{plain_cell}
@@ -13,7 +12,7 @@ AreBuilt columns = AllByRecursion IsBuilt columns
 
 -- That has one proof at most, as what a struct keeps must.
 IsBuilt-prop : (t : Shape) → IsProp (IsBuilt t)
-IsBuilt-prop (scalar s) = Bool-set _ _
+IsBuilt-prop (scalar s) = λ x y. refl
 IsBuilt-prop (nullable t) = IsBuilt-prop t
 IsBuilt-prop (array t) = λ x y. absurd x
 IsBuilt-prop (range t) = λ x y. absurd x

@@ -2,7 +2,7 @@ use Rattle.std.proofs.Common.{◌∙◌, ap, sym, arith, w16, w32, w64}
 use Rattle.pgw_meta.specs.Types.{shape}
 use Rattle.pgw_scalar.proofs.Whole.{size_16, size_32, size_64}
 use Rattle.pgw_cell.specs.Written.{canonical_read}
-use Rattle.pgw_cell.proofs.Written.{signed_written, unsigned_written, oid_written}
+use Rattle.pgw_cell.proofs.Written.{signed_written, unsigned_written, oid_written, interval_written}
 use Rattle.pgw_cell.proofs.piece.+written.Goals as goal
 
 pub returns-in-Int2 : goal.returns-in-Int2
@@ -49,3 +49,8 @@ pub returns-in-Timestamptz : goal.returns-in-Timestamptz
 returns-in-Timestamptz t c =
     c.whole-in-Timestamptz.ensures ∙ signed_written w64 8 size_64 c.args.piece.now (λ i. omega (arith, c.type_inv.piece i))
     ∙ ap (λ u. canonical_read (shape u) c.args.piece.now) (sym c.in-Timestamptz.is)
+
+pub returns-in-Interval : goal.returns-in-Interval
+returns-in-Interval t c =
+    c.front-in-Interval.ensures ∙ interval_written c.args.piece.now (λ i. omega (arith, c.type_inv.piece i))
+    ∙ ap (λ u. canonical_read (shape u) c.args.piece.now) (sym c.in-Interval.is)
