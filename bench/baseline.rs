@@ -6,9 +6,10 @@
 //! instead.
 //!
 //! There is one buffer of input, which is gone through once. A row that is canonical as it stands
-//! is not written anew: such rows are handed on together, as one run of the buffer. A null and the
-//! byte of a bool are respelled at their place. Only bytes that are dropped interrupt a run: those
-//! behind the value of a bool, a char or an oid, and the fields behind the last column.
+//! is not written anew: such rows are handed on together, as one run of the buffer. A null, the byte
+//! of a bool and a numeric that is not a number are respelled at their place. Only bytes that are
+//! dropped interrupt a run: those behind the value of a bool, a char, an oid, an interval or a
+//! numeric, and the fields behind the last column.
 
 use std::collections::TryReserveError;
 use std::env;
@@ -31,6 +32,8 @@ const GAPS: usize = 1024;
 const HEADER: [u8; 19] = *b"PGCOPY\n\xff\r\n\0\0\0\0\0\0\0\0\0";
 /// The length of a null.
 const NULL: [u8; 4] = (-1i32).to_be_bytes();
+/// A numeric that is not a number: no digits, weight 0, its sign, scale 0.
+const NOT_A_NUMBER: [u8; 8] = [0, 0, 0, 0, 0xc0, 0, 0, 0];
 /// The longest field that the format can state.
 const FIELD_MAX: u64 = 2147483647;
 /// How many columns the count of a row can state.
@@ -101,6 +104,9 @@ enum Type {
     Leading(usize),
     /// At least one byte, of which the first is kept, as 0 or 1.
     Bool,
+    /// A network, with this byte behind the family and the prefix.
+    Network(u8),
+    Numeric,
     Text,
     Bytea,
 }
@@ -126,6 +132,10 @@ impl Column {
                 Type::Exact(8)
             }
             "oid" => Type::Leading(4),
+            "interval" => Type::Leading(16),
+            "inet" => Type::Network(0),
+            "cidr" => Type::Network(1),
+            "numeric" => Type::Numeric,
             "text" => Type::Text,
             "bytea" => Type::Bytea,
             "uuid" => Type::Exact(16),
@@ -151,7 +161,7 @@ impl Column {
 
     /// Whether a canonical field may have fewer bytes than one that is read.
     fn shortens(&self) -> bool {
-        matches!(self.of, Type::Leading(_) | Type::Bool)
+        matches!(self.of, Type::Leading(_) | Type::Bool | Type::Numeric)
     }
 }
 
@@ -166,8 +176,49 @@ impl Type {
             Type::Bool if bytes.is_empty() => Err("size"),
             Type::Exact(size) | Type::Leading(size) => Ok(size),
             Type::Bool => Ok(1),
+            Type::Network(kind) => network_kept(kind, bytes),
+            Type::Numeric => numeric_kept(bytes),
             Type::Text | Type::Bytea => Ok(bytes.len()),
         }
+    }
+}
+
+/// All bytes of a network are kept: the family, the prefix, the byte that tells `inet` and `cidr`
+/// apart, the length of the address, and the address.
+#[inline(always)]
+fn network_kept(kind: u8, bytes: &[u8]) -> Result<usize, &'static str> {
+    let (prefix, longest) = match *bytes {
+        [2, prefix, of, 4, _, _, _, _] if of == kind => (prefix, 32),
+        [3, prefix, of, 16, ref address @ ..] if of == kind && address.len() == 16 => (prefix, 128),
+        _ => return Err("family"),
+    };
+    if prefix > longest {
+        return Err("prefix");
+    }
+    Ok(bytes.len())
+}
+
+/// Of a numeric the number of digits, the weight, the sign and the scale are kept, each in two
+/// bytes, and as many digits as there are said to be; of one that is not a number no digits.
+#[inline(always)]
+fn numeric_kept(bytes: &[u8]) -> Result<usize, &'static str> {
+    let Some([high, low, _, _, sign @ .., _, _]) = bytes.first_chunk::<8>() else {
+        return Err("size");
+    };
+    let size = 8 + 2 * usize::from(u16::from_be_bytes([*high, *low]));
+    match sign {
+        _ if bytes.len() < size => Err("size"),
+        [0 | 0x40, 0] => Ok(size),
+        [0xc0, 0] => Ok(NOT_A_NUMBER.len()),
+        _ => Err("sign"),
+    }
+}
+
+/// Makes the numeric in front of the bytes canonical where it is not a number.
+#[inline(always)]
+fn respell_numeric(bytes: &mut [u8]) {
+    if bytes[4] == NOT_A_NUMBER[4] {
+        bytes[..8].copy_from_slice(&NOT_A_NUMBER);
     }
 }
 
@@ -317,10 +368,10 @@ impl Plan {
         Ok(())
     }
 
-    /// Checks the field of each column, of which the first is at a place. Makes each null and the
-    /// byte of each bool canonical, and answers where the last field ends. Of the fields that have
-    /// more bytes than they keep a list is made, since only a row that is taken may lose them.
-    /// `SHORTENS` tells whether a column may have such fields.
+    /// Checks the field of each column, of which the first is at a place. Makes each null, the byte
+    /// of each bool and each numeric that is not a number canonical, and answers where the last
+    /// field ends. Of the fields that have more bytes than they keep a list is made, since only a
+    /// row that is taken may lose them. `SHORTENS` tells whether a column may have such fields.
     #[inline(always)]
     fn check_fields<const SHORTENS: bool>(
         &self,
@@ -353,8 +404,10 @@ impl Plan {
                             behind,
                         });
                     }
-                    if SHORTENS && matches!(of.of, Type::Bool) {
-                        bytes[place + 4] = bytes[place + 4].min(1);
+                    match of.of {
+                        Type::Bool if SHORTENS => bytes[place + 4] = bytes[place + 4].min(1),
+                        Type::Numeric if SHORTENS => respell_numeric(&mut bytes[place + 4..]),
+                        _ => {}
                     }
                 }
             }
