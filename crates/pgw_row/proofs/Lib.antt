@@ -1,0 +1,7 @@
+pub mod ResultFields
+pub mod Named
+pub mod Ragged
+mod WorkedRows
+mod WorkedBuilding
+mod WorkedResults
+mod WorkedErrors
