@@ -1,4 +1,6 @@
+ghost use Rattle.std.specs.Prelude.{◌≡◌};
 ghost use Rattle.pgw_meta.specs.Naming.{built_in};
+ghost use Rattle.pgw_scalar.specs.BuiltIn.{AreOids};
 
 use crate::sql_types::Numeric;
 use pgw_meta::{HasSqlType, LookupError, Pg, PgMetadataLookup, PgTypeMetadata};
@@ -11,7 +13,10 @@ impl HasSqlType<Numeric> for Pg {
     fn metadata<L: PgMetadataLookup>(
         _alloc: Global,
         _lookup: &mut L,
-    ) -> Result<PgTypeMetadata, LookupError> {
+    ) -> Result<PgTypeMetadata, LookupError>
+        ensures oids { AreOids 1700 1231 result }
+        ensures lookup { _lookup.new ≡ _lookup.old }
+    {
         Ok(PgTypeMetadata::new(1700, 1231))
     }
 }

@@ -1,7 +1,7 @@
 ghost use Rattle.std.specs.Prelude.{◌≡◌, ◌++◌, List, ℕ, length, OnOk};
 ghost use Rattle.pgw_wire.specs.Output.{IsSameOutput};
 ghost use Rattle.pgw_numeric.specs.Numeric.{digit_bytes};
-ghost use Rattle.pgw_numeric.specs.Written.{numeric_of, IsWrittenAs, WritesNumeric};
+ghost use Rattle.pgw_numeric.specs.Written.{numeric_of, IsWrittenAs, WritesNumeric, WroteNumeric};
 
 use crate::PgNumeric;
 use crate::field::{Header, Sign};
@@ -73,7 +73,9 @@ impl ToSql<Numeric> for PgNumeric {
 
     /// Appends how many digits it has, the weight, the sign, the scale and the digits; of `NaN` 0000 0000 C000 0000.
     /// `TooMany` exactly where it has more than 65535 digits, and then nothing is appended.
-    fn to_sql<L: PgMetadataLookup>(&self, out: &mut Output<'_, L>) -> serialize::Result {
+    fn to_sql<L: PgMetadataLookup>(&self, out: &mut Output<'_, L>) -> serialize::Result
+        ensures { WroteNumeric out.old out.new (numeric_of self.now) result }
+    {
         let parts = self.parts();
         let Ok(count) = u16::try_from(parts.digits.len()) else {
             return Err(WriteError::TooMany);

@@ -6,3 +6,5 @@ pub mod Text
 pub mod Networks
 pub mod IpNetworks
 pub mod Refusals
+pub mod Writing
+pub mod BuiltIn

@@ -4,6 +4,7 @@ ghost use Rattle.pgw_wire.specs.declared.is_null.IsNull.TheVariants.{No as no};
 ghost use Rattle.pgw_meta.specs.Reading.{ReadsPiece, RefusesPiece};
 ghost use Rattle.pgw_scalar.specs.Bytea.{IsBytea};
 ghost use Rattle.pgw_scalar.specs.Refusals.{RefusesNone};
+ghost use Rattle.pgw_scalar.specs.Writing.{WrotePiece};
 
 use crate::sql_types::Binary;
 use pgw_meta::PgMetadataLookup;
@@ -54,7 +55,9 @@ impl ToSql<Binary> for Vec<u8> {
     ghost writes = { λ _ v answer bytes. (answer ≡ Ok no) × (bytes ≡ v.items) };
 
     /// Appends the bytes.
-    fn to_sql<L: PgMetadataLookup>(&self, out: &mut Output<'_, L>) -> serialize::Result {
+    fn to_sql<L: PgMetadataLookup>(&self, out: &mut Output<'_, L>) -> serialize::Result
+        ensures { WrotePiece out.old out.new self.now.items result }
+    {
         out.write_all(self.as_slice())?;
         Ok(IsNull::No)
     }

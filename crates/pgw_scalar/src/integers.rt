@@ -4,6 +4,7 @@ ghost use Rattle.pgw_wire.specs.declared.is_null.IsNull.TheVariants.{No as no};
 ghost use Rattle.pgw_meta.specs.Reading.{ReadsPiece, RefusesPiece};
 ghost use Rattle.pgw_scalar.specs.Whole.{IsSigned, signed_bytes};
 ghost use Rattle.pgw_scalar.specs.Refusals.{RefusesSize};
+ghost use Rattle.pgw_scalar.specs.Writing.{WrotePiece};
 
 use crate::sql_types::{BigInt, Integer, SmallInt};
 use pgw_meta::PgMetadataLookup;
@@ -40,7 +41,9 @@ impl ToSql<SmallInt> for i16 {
     ghost writes = { λ _ v answer bytes. (answer ≡ Ok no) × (bytes ≡ signed_bytes w16 v) };
 
     /// Appends the 2 bytes of the number.
-    fn to_sql<L: PgMetadataLookup>(&self, out: &mut Output<'_, L>) -> serialize::Result {
+    fn to_sql<L: PgMetadataLookup>(&self, out: &mut Output<'_, L>) -> serialize::Result
+        ensures { WrotePiece out.old out.new (signed_bytes w16 self.now) result }
+    {
         out.write_all(&self.to_be_bytes())?;
         Ok(IsNull::No)
     }
@@ -74,7 +77,9 @@ impl ToSql<Integer> for i32 {
     ghost writes = { λ _ v answer bytes. (answer ≡ Ok no) × (bytes ≡ signed_bytes w32 v) };
 
     /// Appends the 4 bytes of the number.
-    fn to_sql<L: PgMetadataLookup>(&self, out: &mut Output<'_, L>) -> serialize::Result {
+    fn to_sql<L: PgMetadataLookup>(&self, out: &mut Output<'_, L>) -> serialize::Result
+        ensures { WrotePiece out.old out.new (signed_bytes w32 self.now) result }
+    {
         out.write_all(&self.to_be_bytes())?;
         Ok(IsNull::No)
     }
@@ -108,7 +113,9 @@ impl ToSql<BigInt> for i64 {
     ghost writes = { λ _ v answer bytes. (answer ≡ Ok no) × (bytes ≡ signed_bytes w64 v) };
 
     /// Appends the 8 bytes of the number.
-    fn to_sql<L: PgMetadataLookup>(&self, out: &mut Output<'_, L>) -> serialize::Result {
+    fn to_sql<L: PgMetadataLookup>(&self, out: &mut Output<'_, L>) -> serialize::Result
+        ensures { WrotePiece out.old out.new (signed_bytes w64 self.now) result }
+    {
         out.write_all(&self.to_be_bytes())?;
         Ok(IsNull::No)
     }

@@ -3,6 +3,7 @@ ghost use Rattle.pgw_wire.specs.declared.is_null.IsNull.TheVariants.{No as no};
 ghost use Rattle.pgw_meta.specs.Reading.{ReadsPiece, RefusesPiece};
 ghost use Rattle.pgw_scalar.specs.Leading.{IsBool, bool_bytes, IsChar, char_bytes, IsOid, oid_bytes};
 ghost use Rattle.pgw_scalar.specs.Refusals.{RefusesEmpty, RefusesShort};
+ghost use Rattle.pgw_scalar.specs.Writing.{WrotePiece};
 
 use crate::sql_types::{Bool, CChar, Oid};
 use pgw_meta::PgMetadataLookup;
@@ -36,7 +37,9 @@ impl ToSql<Bool> for bool {
     ghost writes = { λ _ v answer bytes. (answer ≡ Ok no) × (bytes ≡ bool_bytes v) };
 
     /// Appends a byte, 1 of true and 0 of false.
-    fn to_sql<L: PgMetadataLookup>(&self, out: &mut Output<'_, L>) -> serialize::Result {
+    fn to_sql<L: PgMetadataLookup>(&self, out: &mut Output<'_, L>) -> serialize::Result
+        ensures { WrotePiece out.old out.new (bool_bytes self.now) result }
+    {
         out.write_all(&[if *self { 1 } else { 0 }])?;
         Ok(IsNull::No)
     }
@@ -67,7 +70,9 @@ impl ToSql<CChar> for u8 {
     ghost writes = { λ _ v answer bytes. (answer ≡ Ok no) × (bytes ≡ char_bytes v) };
 
     /// Appends the byte.
-    fn to_sql<L: PgMetadataLookup>(&self, out: &mut Output<'_, L>) -> serialize::Result {
+    fn to_sql<L: PgMetadataLookup>(&self, out: &mut Output<'_, L>) -> serialize::Result
+        ensures { WrotePiece out.old out.new (char_bytes self.now) result }
+    {
         out.write_all(&[*self])?;
         Ok(IsNull::No)
     }
@@ -99,7 +104,9 @@ impl ToSql<Oid> for u32 {
     ghost writes = { λ _ v answer bytes. (answer ≡ Ok no) × (bytes ≡ oid_bytes v) };
 
     /// Appends the 4 bytes of the number.
-    fn to_sql<L: PgMetadataLookup>(&self, out: &mut Output<'_, L>) -> serialize::Result {
+    fn to_sql<L: PgMetadataLookup>(&self, out: &mut Output<'_, L>) -> serialize::Result
+        ensures { WrotePiece out.old out.new (oid_bytes self.now) result }
+    {
         out.write_all(&self.to_be_bytes())?;
         Ok(IsNull::No)
     }

@@ -3,6 +3,7 @@ ghost use Rattle.pgw_wire.specs.declared.is_null.IsNull.TheVariants.{No as no};
 ghost use Rattle.pgw_meta.specs.Reading.{Answers, ReadsPiece, RefusesPiece};
 ghost use Rattle.pgw_scalar.specs.Sized.{IsSized};
 ghost use Rattle.pgw_scalar.specs.Refusals.{RefusesMac};
+ghost use Rattle.pgw_scalar.specs.Writing.{WrotePiece};
 
 use crate::sql_types::{MacAddr, MacAddr8};
 use pgw_meta::PgMetadataLookup;
@@ -47,7 +48,9 @@ impl ToSql<MacAddr> for [u8; 6] {
     ghost writes = { λ _ v answer bytes. (answer ≡ Ok no) × (bytes ≡ v) };
 
     /// Appends the 6 bytes.
-    fn to_sql<L: PgMetadataLookup>(&self, out: &mut Output<'_, L>) -> serialize::Result {
+    fn to_sql<L: PgMetadataLookup>(&self, out: &mut Output<'_, L>) -> serialize::Result
+        ensures { WrotePiece out.old out.new self.now result }
+    {
         out.write_all(self)?;
         Ok(IsNull::No)
     }
@@ -78,7 +81,9 @@ impl ToSql<MacAddr8> for [u8; 8] {
     ghost writes = { λ _ v answer bytes. (answer ≡ Ok no) × (bytes ≡ v) };
 
     /// Appends the 8 bytes.
-    fn to_sql<L: PgMetadataLookup>(&self, out: &mut Output<'_, L>) -> serialize::Result {
+    fn to_sql<L: PgMetadataLookup>(&self, out: &mut Output<'_, L>) -> serialize::Result
+        ensures { WrotePiece out.old out.new self.now result }
+    {
         out.write_all(self)?;
         Ok(IsNull::No)
     }

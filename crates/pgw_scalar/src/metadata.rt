@@ -1,5 +1,6 @@
-ghost use Rattle.std.specs.Prelude.{None, codes};
+ghost use Rattle.std.specs.Prelude.{◌≡◌, None, codes};
 ghost use Rattle.pgw_meta.specs.Naming.{built_in, looked_up_by};
+ghost use Rattle.pgw_scalar.specs.BuiltIn.{AreOids};
 
 use crate::sql_types::{
     BigInt, Binary, Bool, CChar, Cidr, Citext, Inet, Integer, MacAddr, MacAddr8, Money, Oid, PgLsn,
@@ -15,7 +16,10 @@ impl HasSqlType<Bool> for Pg {
     fn metadata<L: PgMetadataLookup>(
         _alloc: Global,
         _lookup: &mut L,
-    ) -> Result<PgTypeMetadata, LookupError> {
+    ) -> Result<PgTypeMetadata, LookupError>
+        ensures oids { AreOids 16 1000 result }
+        ensures lookup { _lookup.new ≡ _lookup.old }
+    {
         Ok(PgTypeMetadata::new(16, 1000))
     }
 }
@@ -27,7 +31,10 @@ impl HasSqlType<CChar> for Pg {
     fn metadata<L: PgMetadataLookup>(
         _alloc: Global,
         _lookup: &mut L,
-    ) -> Result<PgTypeMetadata, LookupError> {
+    ) -> Result<PgTypeMetadata, LookupError>
+        ensures oids { AreOids 18 1002 result }
+        ensures lookup { _lookup.new ≡ _lookup.old }
+    {
         Ok(PgTypeMetadata::new(18, 1002))
     }
 }
@@ -39,7 +46,10 @@ impl HasSqlType<SmallInt> for Pg {
     fn metadata<L: PgMetadataLookup>(
         _alloc: Global,
         _lookup: &mut L,
-    ) -> Result<PgTypeMetadata, LookupError> {
+    ) -> Result<PgTypeMetadata, LookupError>
+        ensures oids { AreOids 21 1005 result }
+        ensures lookup { _lookup.new ≡ _lookup.old }
+    {
         Ok(PgTypeMetadata::new(21, 1005))
     }
 }
@@ -51,7 +61,10 @@ impl HasSqlType<Integer> for Pg {
     fn metadata<L: PgMetadataLookup>(
         _alloc: Global,
         _lookup: &mut L,
-    ) -> Result<PgTypeMetadata, LookupError> {
+    ) -> Result<PgTypeMetadata, LookupError>
+        ensures oids { AreOids 23 1007 result }
+        ensures lookup { _lookup.new ≡ _lookup.old }
+    {
         Ok(PgTypeMetadata::new(23, 1007))
     }
 }
@@ -63,7 +76,10 @@ impl HasSqlType<BigInt> for Pg {
     fn metadata<L: PgMetadataLookup>(
         _alloc: Global,
         _lookup: &mut L,
-    ) -> Result<PgTypeMetadata, LookupError> {
+    ) -> Result<PgTypeMetadata, LookupError>
+        ensures oids { AreOids 20 1016 result }
+        ensures lookup { _lookup.new ≡ _lookup.old }
+    {
         Ok(PgTypeMetadata::new(20, 1016))
     }
 }
@@ -75,7 +91,10 @@ impl HasSqlType<Oid> for Pg {
     fn metadata<L: PgMetadataLookup>(
         _alloc: Global,
         _lookup: &mut L,
-    ) -> Result<PgTypeMetadata, LookupError> {
+    ) -> Result<PgTypeMetadata, LookupError>
+        ensures oids { AreOids 26 1028 result }
+        ensures lookup { _lookup.new ≡ _lookup.old }
+    {
         Ok(PgTypeMetadata::new(26, 1028))
     }
 }
@@ -87,7 +106,10 @@ impl HasSqlType<Text> for Pg {
     fn metadata<L: PgMetadataLookup>(
         _alloc: Global,
         _lookup: &mut L,
-    ) -> Result<PgTypeMetadata, LookupError> {
+    ) -> Result<PgTypeMetadata, LookupError>
+        ensures oids { AreOids 25 1009 result }
+        ensures lookup { _lookup.new ≡ _lookup.old }
+    {
         Ok(PgTypeMetadata::new(25, 1009))
     }
 }
@@ -111,7 +133,10 @@ impl HasSqlType<Binary> for Pg {
     fn metadata<L: PgMetadataLookup>(
         _alloc: Global,
         _lookup: &mut L,
-    ) -> Result<PgTypeMetadata, LookupError> {
+    ) -> Result<PgTypeMetadata, LookupError>
+        ensures oids { AreOids 17 1001 result }
+        ensures lookup { _lookup.new ≡ _lookup.old }
+    {
         Ok(PgTypeMetadata::new(17, 1001))
     }
 }
@@ -123,7 +148,10 @@ impl HasSqlType<Uuid> for Pg {
     fn metadata<L: PgMetadataLookup>(
         _alloc: Global,
         _lookup: &mut L,
-    ) -> Result<PgTypeMetadata, LookupError> {
+    ) -> Result<PgTypeMetadata, LookupError>
+        ensures oids { AreOids 2950 2951 result }
+        ensures lookup { _lookup.new ≡ _lookup.old }
+    {
         Ok(PgTypeMetadata::new(2950, 2951))
     }
 }
@@ -135,7 +163,10 @@ impl HasSqlType<Money> for Pg {
     fn metadata<L: PgMetadataLookup>(
         _alloc: Global,
         _lookup: &mut L,
-    ) -> Result<PgTypeMetadata, LookupError> {
+    ) -> Result<PgTypeMetadata, LookupError>
+        ensures oids { AreOids 790 791 result }
+        ensures lookup { _lookup.new ≡ _lookup.old }
+    {
         Ok(PgTypeMetadata::new(790, 791))
     }
 }
@@ -147,7 +178,10 @@ impl HasSqlType<PgLsn> for Pg {
     fn metadata<L: PgMetadataLookup>(
         _alloc: Global,
         _lookup: &mut L,
-    ) -> Result<PgTypeMetadata, LookupError> {
+    ) -> Result<PgTypeMetadata, LookupError>
+        ensures oids { AreOids 3220 3221 result }
+        ensures lookup { _lookup.new ≡ _lookup.old }
+    {
         Ok(PgTypeMetadata::new(3220, 3221))
     }
 }
@@ -159,7 +193,10 @@ impl HasSqlType<MacAddr> for Pg {
     fn metadata<L: PgMetadataLookup>(
         _alloc: Global,
         _lookup: &mut L,
-    ) -> Result<PgTypeMetadata, LookupError> {
+    ) -> Result<PgTypeMetadata, LookupError>
+        ensures oids { AreOids 829 1040 result }
+        ensures lookup { _lookup.new ≡ _lookup.old }
+    {
         Ok(PgTypeMetadata::new(829, 1040))
     }
 }
@@ -171,7 +208,10 @@ impl HasSqlType<MacAddr8> for Pg {
     fn metadata<L: PgMetadataLookup>(
         _alloc: Global,
         _lookup: &mut L,
-    ) -> Result<PgTypeMetadata, LookupError> {
+    ) -> Result<PgTypeMetadata, LookupError>
+        ensures oids { AreOids 774 775 result }
+        ensures lookup { _lookup.new ≡ _lookup.old }
+    {
         Ok(PgTypeMetadata::new(774, 775))
     }
 }
@@ -183,7 +223,10 @@ impl HasSqlType<Inet> for Pg {
     fn metadata<L: PgMetadataLookup>(
         _alloc: Global,
         _lookup: &mut L,
-    ) -> Result<PgTypeMetadata, LookupError> {
+    ) -> Result<PgTypeMetadata, LookupError>
+        ensures oids { AreOids 869 1041 result }
+        ensures lookup { _lookup.new ≡ _lookup.old }
+    {
         Ok(PgTypeMetadata::new(869, 1041))
     }
 }
@@ -195,7 +238,10 @@ impl HasSqlType<Cidr> for Pg {
     fn metadata<L: PgMetadataLookup>(
         _alloc: Global,
         _lookup: &mut L,
-    ) -> Result<PgTypeMetadata, LookupError> {
+    ) -> Result<PgTypeMetadata, LookupError>
+        ensures oids { AreOids 650 651 result }
+        ensures lookup { _lookup.new ≡ _lookup.old }
+    {
         Ok(PgTypeMetadata::new(650, 651))
     }
 }

@@ -4,6 +4,7 @@ ghost use Rattle.pgw_wire.specs.declared.is_null.IsNull.TheVariants.{No as no};
 ghost use Rattle.pgw_meta.specs.Reading.{ReadsPiece, RefusesPiece};
 ghost use Rattle.pgw_scalar.specs.Whole.{IsSigned, signed_bytes};
 ghost use Rattle.pgw_scalar.specs.Refusals.{RefusesSize};
+ghost use Rattle.pgw_scalar.specs.Writing.{WrotePiece};
 
 use crate::sql_types::{BigInt, Money};
 use pgw_meta::PgMetadataLookup;
@@ -64,7 +65,9 @@ impl ToSql<Money> for PgMoney {
     ghost writes = { λ _ v answer bytes. (answer ≡ Ok no) × (bytes ≡ signed_bytes w64 v.0) };
 
     /// Appends the 8 bytes of the number.
-    fn to_sql<L: PgMetadataLookup>(&self, out: &mut Output<'_, L>) -> serialize::Result {
+    fn to_sql<L: PgMetadataLookup>(&self, out: &mut Output<'_, L>) -> serialize::Result
+        ensures { WrotePiece out.old out.new (signed_bytes w64 self.now.0) result }
+    {
         <i64 as ToSql<BigInt>>::to_sql(&self.0, out)
     }
 }

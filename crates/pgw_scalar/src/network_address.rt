@@ -5,6 +5,7 @@ ghost use Rattle.pgw_meta.specs.Reading.{Answers, ReadsPiece, RefusesPiece};
 ghost use Rattle.pgw_scalar.specs.Networks.{IsNetwork, network_bytes, family, address_size};
 ghost use Rattle.pgw_scalar.specs.IpNetworks.{network_of};
 ghost use Rattle.pgw_scalar.specs.Refusals.{RefusesNetwork, network_refusal, address_refusal, length_refusal};
+ghost use Rattle.pgw_scalar.specs.Writing.{WrotePiece};
 
 use crate::sql_types::{Cidr, Inet};
 use crate::{IpNetwork, Ipv4Network, Ipv6Network};
@@ -137,7 +138,9 @@ impl ToSql<Inet> for IpNetwork {
     ghost writes = { λ _ v answer bytes. (answer ≡ Ok no) × (bytes ≡ network_bytes 0 (network_of v)) };
 
     /// Appends the family, the prefix, 0, the length of the address, and all bytes of the address.
-    fn to_sql<L: PgMetadataLookup>(&self, out: &mut Output<'_, L>) -> serialize::Result {
+    fn to_sql<L: PgMetadataLookup>(&self, out: &mut Output<'_, L>) -> serialize::Result
+        ensures { WrotePiece out.old out.new (network_bytes 0 (network_of self.now)) result }
+    {
         out.write_all(&header(INET, self))?;
         out.write_all(address_of(self))?;
         Ok(IsNull::No)
@@ -170,7 +173,9 @@ impl ToSql<Cidr> for IpNetwork {
     ghost writes = { λ _ v answer bytes. (answer ≡ Ok no) × (bytes ≡ network_bytes 1 (network_of v)) };
 
     /// Appends the family, the prefix, 1, the length of the address, and all bytes of the address.
-    fn to_sql<L: PgMetadataLookup>(&self, out: &mut Output<'_, L>) -> serialize::Result {
+    fn to_sql<L: PgMetadataLookup>(&self, out: &mut Output<'_, L>) -> serialize::Result
+        ensures { WrotePiece out.old out.new (network_bytes 1 (network_of self.now)) result }
+    {
         out.write_all(&header(CIDR, self))?;
         out.write_all(address_of(self))?;
         Ok(IsNull::No)

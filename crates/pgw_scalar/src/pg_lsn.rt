@@ -4,6 +4,7 @@ ghost use Rattle.pgw_wire.specs.declared.is_null.IsNull.TheVariants.{No as no};
 ghost use Rattle.pgw_meta.specs.Reading.{ReadsPiece, RefusesPiece};
 ghost use Rattle.pgw_scalar.specs.Whole.{IsUnsigned};
 ghost use Rattle.pgw_scalar.specs.Refusals.{RefusesSize};
+ghost use Rattle.pgw_scalar.specs.Writing.{WrotePiece};
 
 use crate::sql_types;
 use pgw_meta::PgMetadataLookup;
@@ -44,7 +45,9 @@ impl ToSql<sql_types::PgLsn> for PgLsn {
     ghost writes = { λ _ v answer bytes. (answer ≡ Ok no) × (bytes ≡ to_be_bytes w64 v.0) };
 
     /// Appends the 8 bytes of the number.
-    fn to_sql<L: PgMetadataLookup>(&self, out: &mut Output<'_, L>) -> serialize::Result {
+    fn to_sql<L: PgMetadataLookup>(&self, out: &mut Output<'_, L>) -> serialize::Result
+        ensures { WrotePiece out.old out.new (to_be_bytes w64 self.now.0) result }
+    {
         out.write_all(&self.0.to_be_bytes())?;
         Ok(IsNull::No)
     }

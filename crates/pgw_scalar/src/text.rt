@@ -4,6 +4,7 @@ ghost use Rattle.pgw_wire.specs.declared.is_null.IsNull.TheVariants.{No as no};
 ghost use Rattle.pgw_meta.specs.Reading.{ReadsPiece, RefusesPiece};
 ghost use Rattle.pgw_scalar.specs.Text.{IsText, text_bytes};
 ghost use Rattle.pgw_scalar.specs.Refusals.{RefusesText};
+ghost use Rattle.pgw_scalar.specs.Writing.{WrotePiece};
 
 use crate::sql_types::{Citext, Text};
 use pgw_meta::PgMetadataLookup;
@@ -55,7 +56,9 @@ impl ToSql<Text> for String {
     ghost writes = { λ _ v answer bytes. (answer ≡ Ok no) × (bytes ≡ text_bytes (string_bytes v)) };
 
     /// Appends the bytes of the text.
-    fn to_sql<L: PgMetadataLookup>(&self, out: &mut Output<'_, L>) -> serialize::Result {
+    fn to_sql<L: PgMetadataLookup>(&self, out: &mut Output<'_, L>) -> serialize::Result
+        ensures { WrotePiece out.old out.new (text_bytes (string_bytes self.now)) result }
+    {
         out.write_all(self.as_bytes())?;
         Ok(IsNull::No)
     }
@@ -121,7 +124,9 @@ impl ToSql<Citext> for String {
     ghost writes = { λ _ v answer bytes. (answer ≡ Ok no) × (bytes ≡ text_bytes (string_bytes v)) };
 
     /// Appends the bytes of the text.
-    fn to_sql<L: PgMetadataLookup>(&self, out: &mut Output<'_, L>) -> serialize::Result {
+    fn to_sql<L: PgMetadataLookup>(&self, out: &mut Output<'_, L>) -> serialize::Result
+        ensures { WrotePiece out.old out.new (text_bytes (string_bytes self.now)) result }
+    {
         <String as ToSql<Text>>::to_sql(self, out)
     }
 }

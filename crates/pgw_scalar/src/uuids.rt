@@ -3,6 +3,7 @@ ghost use Rattle.pgw_wire.specs.declared.is_null.IsNull.TheVariants.{No as no};
 ghost use Rattle.pgw_meta.specs.Reading.{ReadsPiece, RefusesPiece};
 ghost use Rattle.pgw_scalar.specs.Sized.{IsSized};
 ghost use Rattle.pgw_scalar.specs.Refusals.{RefusesUuid};
+ghost use Rattle.pgw_scalar.specs.Writing.{WrotePiece};
 
 use crate::sql_types::Uuid as UuidType;
 use pgw_meta::PgMetadataLookup;
@@ -39,7 +40,9 @@ impl ToSql<UuidType> for Uuid {
     ghost writes = { λ _ v answer bytes. (answer ≡ Ok no) × (bytes ≡ v) };
 
     /// Appends the 16 bytes.
-    fn to_sql<L: PgMetadataLookup>(&self, out: &mut Output<'_, L>) -> serialize::Result {
+    fn to_sql<L: PgMetadataLookup>(&self, out: &mut Output<'_, L>) -> serialize::Result
+        ensures { WrotePiece out.old out.new self.now result }
+    {
         out.write_all(self.as_bytes())?;
         Ok(IsNull::No)
     }

@@ -3,8 +3,8 @@ use Rattle.std.specs.Prelude.{◌≡◌, ◌<◌, if◌then◌else◌, nat_lt, �
 use Rattle.pgw_wire.specs.declared.sql_error.SqlError.{SqlError}
 use Rattle.pgw_wire.specs.declared.sql_error.SqlError.TheVariants.{ShortValue}
 
--- where the number ends, of the three of an interval, in which a piece of fewer than 16 bytes ends: the least of 8, 12
--- and 16 that is above how many bytes it has
+-- The numbers of an interval end at 8, 12 and 16. Of a piece that has fewer than 16 bytes, the first of these that is more
+-- than it has.
 abbrev pub number_end : ℕ → ℕ
 number_end have = if nat_lt have 8 then 8 else if nat_lt have 12 then 12 else 16
 

@@ -4,6 +4,7 @@ ghost use Rattle.pgw_wire.specs.declared.is_null.IsNull.TheVariants.{No as no};
 ghost use Rattle.pgw_meta.specs.Reading.{ReadsPiece, RefusesPiece};
 ghost use Rattle.pgw_scalar.specs.Whole.{IsSigned, signed_bytes};
 ghost use Rattle.pgw_scalar.specs.Refusals.{RefusesSize};
+ghost use Rattle.pgw_scalar.specs.Writing.{WrotePiece};
 
 use crate::sql_types::{Date, Time, Timestamp, Timestamptz};
 use pgw_meta::deserialize::{self, FromSql, required};
@@ -80,7 +81,9 @@ impl ToSql<Date> for PgDate {
     ghost writes = { λ _ v answer bytes. (answer ≡ Ok no) × (bytes ≡ signed_bytes w32 v.0) };
 
     /// Appends the 4 bytes of the number.
-    fn to_sql<L: PgMetadataLookup>(&self, out: &mut Output<'_, L>) -> serialize::Result {
+    fn to_sql<L: PgMetadataLookup>(&self, out: &mut Output<'_, L>) -> serialize::Result
+        ensures { WrotePiece out.old out.new (signed_bytes w32 self.now.0) result }
+    {
         <i32 as ToSql<Integer>>::to_sql(&self.0, out)
     }
 }
@@ -107,7 +110,9 @@ impl ToSql<Time> for PgTime {
     ghost writes = { λ _ v answer bytes. (answer ≡ Ok no) × (bytes ≡ signed_bytes w64 v.0) };
 
     /// Appends the 8 bytes of the number.
-    fn to_sql<L: PgMetadataLookup>(&self, out: &mut Output<'_, L>) -> serialize::Result {
+    fn to_sql<L: PgMetadataLookup>(&self, out: &mut Output<'_, L>) -> serialize::Result
+        ensures { WrotePiece out.old out.new (signed_bytes w64 self.now.0) result }
+    {
         <i64 as ToSql<BigInt>>::to_sql(&self.0, out)
     }
 }
@@ -137,7 +142,9 @@ impl ToSql<Timestamp> for PgTimestamp {
     ghost writes = { λ _ v answer bytes. (answer ≡ Ok no) × (bytes ≡ signed_bytes w64 v.0) };
 
     /// Appends the 8 bytes of the number.
-    fn to_sql<L: PgMetadataLookup>(&self, out: &mut Output<'_, L>) -> serialize::Result {
+    fn to_sql<L: PgMetadataLookup>(&self, out: &mut Output<'_, L>) -> serialize::Result
+        ensures { WrotePiece out.old out.new (signed_bytes w64 self.now.0) result }
+    {
         <i64 as ToSql<BigInt>>::to_sql(&self.0, out)
     }
 }
@@ -167,7 +174,9 @@ impl ToSql<Timestamptz> for PgTimestamp {
     ghost writes = { λ _ v answer bytes. (answer ≡ Ok no) × (bytes ≡ signed_bytes w64 v.0) };
 
     /// Appends the 8 bytes of the number.
-    fn to_sql<L: PgMetadataLookup>(&self, out: &mut Output<'_, L>) -> serialize::Result {
+    fn to_sql<L: PgMetadataLookup>(&self, out: &mut Output<'_, L>) -> serialize::Result
+        ensures { WrotePiece out.old out.new (signed_bytes w64 self.now.0) result }
+    {
         <PgTimestamp as ToSql<Timestamp>>::to_sql(self, out)
     }
 }

@@ -2,6 +2,7 @@ ghost use Rattle.std.specs.Prelude.{◌≡◌, ◌+ℤ◌, pos, FitsSigned, Some
 ghost use Rattle.std.specs.Int.{w32, w64};
 ghost use Rattle.pgw_wire.specs.declared.is_null.IsNull.TheVariants.{No as no};
 ghost use Rattle.pgw_meta.specs.Reading.{ReadsPiece, RefusesPiece};
+ghost use Rattle.pgw_scalar.specs.Writing.{WrotePiece};
 ghost use Rattle.pgw_time.specs.Interval.{IsInterval, interval_bytes, interval_of};
 ghost use Rattle.pgw_time.specs.Refusals.{RefusesInterval};
 
@@ -112,7 +113,9 @@ impl ToSql<Interval> for PgInterval {
     ghost writes = { λ _ v answer bytes. (answer ≡ Ok no) × (bytes ≡ interval_bytes (interval_of v)) };
 
     /// Appends the 8 bytes of the microseconds, the 4 of the days and the 4 of the months.
-    fn to_sql<L: PgMetadataLookup>(&self, out: &mut Output<'_, L>) -> serialize::Result {
+    fn to_sql<L: PgMetadataLookup>(&self, out: &mut Output<'_, L>) -> serialize::Result
+        ensures { WrotePiece out.old out.new (interval_bytes (interval_of self.now)) result }
+    {
         out.write_all(&self.microseconds.to_be_bytes())?;
         out.write_all(&self.days.to_be_bytes())?;
         out.write_all(&self.months.to_be_bytes())?;

@@ -1,4 +1,6 @@
+ghost use Rattle.std.specs.Prelude.{◌≡◌};
 ghost use Rattle.pgw_meta.specs.Naming.{built_in};
+ghost use Rattle.pgw_scalar.specs.BuiltIn.{AreOids};
 
 use crate::sql_types;
 use pgw_meta::{HasSqlType, LookupError, Pg, PgMetadataLookup, PgTypeMetadata};
@@ -11,7 +13,10 @@ impl HasSqlType<sql_types::Date> for Pg {
     fn metadata<L: PgMetadataLookup>(
         _alloc: Global,
         _lookup: &mut L,
-    ) -> Result<PgTypeMetadata, LookupError> {
+    ) -> Result<PgTypeMetadata, LookupError>
+        ensures oids { AreOids 1082 1182 result }
+        ensures lookup { _lookup.new ≡ _lookup.old }
+    {
         Ok(PgTypeMetadata::new(1082, 1182))
     }
 }
@@ -23,7 +28,10 @@ impl HasSqlType<sql_types::Time> for Pg {
     fn metadata<L: PgMetadataLookup>(
         _alloc: Global,
         _lookup: &mut L,
-    ) -> Result<PgTypeMetadata, LookupError> {
+    ) -> Result<PgTypeMetadata, LookupError>
+        ensures oids { AreOids 1083 1183 result }
+        ensures lookup { _lookup.new ≡ _lookup.old }
+    {
         Ok(PgTypeMetadata::new(1083, 1183))
     }
 }
@@ -35,7 +43,10 @@ impl HasSqlType<sql_types::Timestamp> for Pg {
     fn metadata<L: PgMetadataLookup>(
         _alloc: Global,
         _lookup: &mut L,
-    ) -> Result<PgTypeMetadata, LookupError> {
+    ) -> Result<PgTypeMetadata, LookupError>
+        ensures oids { AreOids 1114 1115 result }
+        ensures lookup { _lookup.new ≡ _lookup.old }
+    {
         Ok(PgTypeMetadata::new(1114, 1115))
     }
 }
@@ -47,7 +58,10 @@ impl HasSqlType<sql_types::Timestamptz> for Pg {
     fn metadata<L: PgMetadataLookup>(
         _alloc: Global,
         _lookup: &mut L,
-    ) -> Result<PgTypeMetadata, LookupError> {
+    ) -> Result<PgTypeMetadata, LookupError>
+        ensures oids { AreOids 1184 1185 result }
+        ensures lookup { _lookup.new ≡ _lookup.old }
+    {
         Ok(PgTypeMetadata::new(1184, 1185))
     }
 }
@@ -59,7 +73,10 @@ impl HasSqlType<sql_types::Interval> for Pg {
     fn metadata<L: PgMetadataLookup>(
         _alloc: Global,
         _lookup: &mut L,
-    ) -> Result<PgTypeMetadata, LookupError> {
+    ) -> Result<PgTypeMetadata, LookupError>
+        ensures oids { AreOids 1186 1187 result }
+        ensures lookup { _lookup.new ≡ _lookup.old }
+    {
         Ok(PgTypeMetadata::new(1186, 1187))
     }
 }

@@ -17,10 +17,16 @@ joined : (start first second third a b c : List ℕ) → first ≡ start ++ a �
 joined start first second third a b c one two three =
     rw (three, two, one) (ap (λ l. l ++ c) (append_assoc start a b) ∙ append_assoc start (a ++ b) c)
 
-pub returns-clause-wrote : goal.returns-clause-wrote
-returns-clause-wrote g c =
+pub returns : goal.returns
+returns g c =
     let v = c.args.self.now in
     let one = appended w64 _ _ _ v.microseconds (search rules) c.in_ok-write_all.ensures.ok c.to_be_bytes.ensures in
     let two = appended w32 _ _ _ v.days (search rules) c.in_ok-write_all-2.ensures.ok c.to_be_bytes-2.ensures in
     let three = appended w32 _ _ _ v.months (search rules) c.in_ok-write_all-3.ensures.ok c.to_be_bytes-3.ensures in
-    (interval_bytes (interval_of v), joined _ _ _ _ (signed_bytes w64 v.microseconds) (signed_bytes w32 v.days) (signed_bytes w32 v.months) one two three, λ k e. (refl, refl))
+    record {
+      bytes = interval_bytes (interval_of v);
+      buffer = joined _ _ _ _ (signed_bytes w64 v.microseconds) (signed_bytes w32 v.days) (signed_bytes w32 v.months) one two three;
+      answer = (refl, refl);
+      same = search rules;
+      lookup = search rules;
+    }
