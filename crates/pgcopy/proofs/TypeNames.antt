@@ -1,15 +1,20 @@
 -- The type that a word names, with and without a `?` at its end.
-use Rattle.std.proofs.Common.{◌≡◌, ◌≢◌, ℕ, ◌<◌, ◌≤◌, ◌+◌, ◌-◌, lit≤, subst, List, [], ◌∷◌, ◌++◌, length, take, codes, Option, None, Some, option_map, Bor, Bool, true, false, refl, sym, ap, ◌∙◌, if◌then◌else◌}
+use Rattle.std.proofs.Common.{◌≡◌, ◌≢◌, ◌⊎◌, inl, inr, Result, Err, ℕ, ◌<◌, ◌≤◌, ◌+◌, ◌-◌, lit≤, subst, List, [], ◌∷◌, ◌++◌, length, take, codes, Option, None, Some, option_map, Bor, Bool, true, false, refl, sym, ap, ◌∙◌, if◌then◌else◌}
 use Rattle.std.proofs.lemmas.Slice.Eq.{bytes_eq-Decides}
 use Rattle.std.proofs.lemmas.Bool.{false_from_ne_true}
 use Rattle.std.proofs.lemmas.Str.Pattern.{strip_suffix_char}
+use Rattle.std.proofs.lemmas.Option.{none-some}
 use Rattle.std.specs.Bool.{⊤}
 use Rattle.std.specs.Option.{MatchOption, is_some, unwrap_or}
+use Rattle.std.specs.Result.{result_err}
 use Rattle.std.specs.Str.{bytes_eq}
 use Rattle.std.specs.Str.Pattern.{FindsCharSuffix}
 use Rattle.std.specs.List.{AllByRecursion, filter_map}
 use Rattle.pgw_meta.specs.Shape.{Scalar, bool, char, int2, int4, int8, oid, text, bytea, uuid, money, pg_lsn, macaddr, macaddr8, inet, cidr, date, time, timestamp, timestamptz, interval, numeric, Shape, scalar, nullable}
-use Rattle.pgw_meta.specs.Schema.{IsValidColumn, IsValidSchema}
+use Rattle.pgw_meta.specs.Schema.{IsValidColumn, IsValidSchema, schema_fault}
+use Rattle.pgw_meta.specs.declared.schema.SchemaError.{SchemaError}
+use Rattle.pgw_meta.specs.declared.schema.SchemaError.TheVariants.{NoMemory}
+use Rattle.pgw_meta.proofs.Faults.{no_fault_where_valid}
 use Rattle.pgw_cell.specs.Built.{IsBuilt}
 use Rattle.pgcopy.specs.Words.{type_names, look_up, in_front, type_of}
 
@@ -133,3 +138,10 @@ all_known (word ∷ words) = by (type_of word) refl (all_known words)
 
 pub words_valid : (words : List (List ℕ)) → 1 ≤ length (filter_map type_of words) → length (filter_map type_of words) ≤ 32767 → IsValidSchema (filter_map type_of words)
 words_valid words some few = record { some = some; few = few; each = (all_known words).0 }
+
+-- Of valid columns a schema is made, unless memory is refused.
+pub only_memory : {S : Type 0} (columns : List Shape) (result : Result S SchemaError) (e : SchemaError) → IsValidSchema columns
+    → (result_err result ≡ schema_fault columns) ⊎ ((result ≡ Err NoMemory) × IsValidSchema columns) → result ≡ Err e → e ≡ NoMemory
+only_memory columns result e valid (inl fault) is =
+    absurd (none-some e (sym (no_fault_where_valid columns valid) ∙ sym fault ∙ ap result_err is))
+only_memory columns result e valid (inr memory) is = let same : Some e ≡ Some NoMemory = ap result_err (sym is ∙ memory.0) in cc

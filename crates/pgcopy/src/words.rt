@@ -9,7 +9,7 @@ ghost use Rattle.pgw_tree.specs.Limits.{default_limits};
 ghost use Rattle.pgcopy.specs.Words.{type_names, look_up, type_of, behind, is_option, number_of, option_fault, word_fault, first_fault, PlanData, IsPlan, HasNoPlan, PlacedFault, IsFirstFault, plan_of};
 ghost use Rattle.pgcopy.specs.WordsRead.{AreRead};
 
-use pgw_meta::{PgType, Schema, TypeList};
+use pgw_meta::{PgType, Schema, SchemaError, TypeList};
 use pgw_tree::{FIELD_MAX, Limits};
 use pgw_wire::NoMemory;
 use std::alloc::Global;
@@ -286,7 +286,13 @@ fn known_schema(alloc: Global, words: &[String]) -> Result<Schema, NoMemory>
     ensures built { IfOk result (λ schema. AreBuilt (column_shapes schema)) }
 {
     let columns = known_types(alloc, words)?;
-    Ok(Schema::new(alloc, columns).unwrap())
+    match Schema::new(alloc, columns) {
+        Ok(schema) => Ok(schema),
+        Err(error) => match error {
+            SchemaError::NoMemory => Err(NoMemory),
+            _ => unreachable!("the columns are valid"),
+        },
+    }
 }
 
 /// The limits that the options set, and the defaults of the others.

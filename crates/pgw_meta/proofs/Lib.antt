@@ -4,3 +4,7 @@ pub mod OtherTypes
 pub mod Columns
 pub mod WorkedSchemas
 pub mod Reading
+pub mod AddedNeeds
+pub mod SameKeys
+pub mod WorkedNeeds
+pub mod WorkedCatalogs

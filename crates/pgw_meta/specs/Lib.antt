@@ -4,6 +4,11 @@ pub mod Metadata
 pub mod Schema
 pub mod Shape
 pub mod Types
+pub mod Needs
+pub mod NeedPlaces
+pub mod NamedOids
+pub mod Cached
+pub mod Catalog
 pub mod Walk
 pub mod Naming
 pub mod Reading

@@ -1,8 +1,10 @@
-ghost use Rattle.std.specs.Prelude.{◌≡◌, Ok};
+ghost use Rattle.std.specs.Prelude.{◌≡◌, Ok, Err, IfOk};
 ghost use Rattle.pgw_meta.specs.Keys.{key_of};
 ghost use Rattle.pgw_meta.specs.Metadata.{failed_key, metadata_of, type_oid, array_type_oid, oids_or_key, oid_or_key};
 
 use crate::PgMetadataCacheKey;
+use pgw_wire::NoMemory;
+use std::alloc::Global;
 use std::error::Error;
 use std::fmt::{self, Display, Formatter, Write};
 
@@ -98,6 +100,17 @@ impl PgTypeMetadata {
                 Err(error) => Err(error),
             },
         }
+    }
+
+    /// That the type of this key is not known. Memory is taken for the texts that the key borrows.
+    pub(crate) fn unknown(
+        alloc: Global,
+        key: PgMetadataCacheKey<'_>,
+    ) -> Result<PgTypeMetadata, NoMemory>
+        ensures { IfOk result (λ metadata. metadata_of metadata ≡ Err (key_of key.entry)) }
+    {
+        let error = FailedToLookupTypeError::new(key.into_owned(alloc)?);
+        Ok(PgTypeMetadata { oids: Err(error) })
     }
 
     /// The oid of the type, or the key that is not known. It takes no memory.

@@ -1,8 +1,5 @@
-use crate::{
-    FailedToLookupTypeError, LookupError, PgMetadataCacheKey, PgMetadataLookup, PgTypeMetadata,
-};
+use crate::{LookupError, PgMetadataCacheKey, PgMetadataLookup, PgTypeMetadata};
 use std::alloc::Global;
-use std::borrow::CowStr;
 
 /// A lookup that knows no type. It never fails.
 #[derive(Clone, Copy, Debug, Default)]
@@ -25,13 +22,8 @@ impl PgMetadataLookup for Dummy {
         type_name: &str,
         schema: Option<&str>,
     ) -> Result<PgTypeMetadata, LookupError> {
-        let schema = match schema {
-            Some(schema) => Some(CowStr::Borrowed(schema)),
-            None => None,
-        };
-        let key = PgMetadataCacheKey::new(schema, CowStr::Borrowed(type_name));
-        let unknown = FailedToLookupTypeError::new(key.into_owned(alloc)?);
-        Ok(PgTypeMetadata::from_result(Err(unknown)))
+        let key = PgMetadataCacheKey::borrowed(schema, type_name);
+        Ok(PgTypeMetadata::unknown(alloc, key)?)
     }
 
     fn faults(&self) -> u64 {

@@ -1,7 +1,12 @@
-ghost use Rattle.std.specs.Prelude.{◌≡◌, [], ◌∷◌, ◌++◌, OnOk, OnErr, length, slice_get};
-ghost use Rattle.std.specs.Option.{option_copied};
+ghost use Rattle.std.specs.Prelude.{◌≡◌, [], ◌∷◌, ◌++◌, OnOk, OnErr, IfOk, length, slice_get};
+ghost use Rattle.std.specs.Option.{option_copied, option_map};
+ghost use Rattle.pgw_meta.specs.Keys.{key_of, text_of};
+ghost use Rattle.pgw_meta.specs.Metadata.{metadata_of, found, oids_of};
+ghost use Rattle.pgw_meta.specs.NamedOids.{known_of};
 
-use crate::TypeKey;
+use crate::{
+    InnerPgTypeMetadata, LookupError, PgMetadataCacheKey, PgMetadataLookup, PgTypeMetadata, TypeKey,
+};
 use pgw_wire::NoMemory;
 use std::alloc::Global;
 use std::marker::Model;
@@ -70,5 +75,54 @@ impl FoundOids {
         ensures { result.now ≡ self.now }
     {
         self.entries.as_slice()
+    }
+}
+
+/// The oids of the first entry of a key. None where no entry has it. It takes no memory.
+pub(crate) fn first_oids(
+    entries: &[Found],
+    key: &PgMetadataCacheKey<'_>,
+) -> Option<InnerPgTypeMetadata>
+    ensures { option_map oids_of result ≡ known_of entries.now (key_of key.now) }
+{
+    for entry in entries {
+        if entry.key.is(key) {
+            return Some(InnerPgTypeMetadata {
+                oid: entry.oid,
+                array_oid: entry.array_oid,
+            });
+        }
+    }
+    None
+}
+
+/// A list is a lookup that knows its entries. It never fails.
+impl PgMetadataLookup for FoundOids {
+    ghost use Rattle.std.specs.Prelude.{true, Some, refl};
+    ghost use Rattle.pgw_meta.specs.NamedOids.{known_of};
+
+    ghost state = { λ entries. record {
+      told = record { known = Some (known_of entries); faultless = true };
+      fault_count = 0;
+      origin = tt;
+    } };
+
+    ghost quiet = { λ _ _. refl };
+
+    fn lookup_type(
+        &mut self,
+        alloc: Global,
+        type_name: &str,
+        schema: Option<&str>,
+    ) -> Result<PgTypeMetadata, LookupError> {
+        let key = PgMetadataCacheKey::borrowed(schema, type_name);
+        match first_oids(&self.entries, &key) {
+            Some(oids) => Ok(PgTypeMetadata::new(oids.oid, oids.array_oid)),
+            None => Ok(PgTypeMetadata::unknown(alloc, key)?),
+        }
+    }
+
+    fn faults(&self) -> u64 {
+        0
     }
 }

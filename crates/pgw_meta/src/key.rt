@@ -2,6 +2,7 @@ ghost use Rattle.std.specs.Prelude.{◌≡◌, IfOk};
 ghost use Rattle.std.specs.Cow.{cow_str_bytes};
 ghost use Rattle.pgw_meta.specs.Known.{Key};
 ghost use Rattle.pgw_meta.specs.Keys.{key_of, owned_key, cow_text_of, text_of};
+ghost use Rattle.pgw_meta.specs.Needs.{is_same_key};
 
 use crate::NameText;
 use pgw_wire::NoMemory;
@@ -22,6 +23,20 @@ impl<'a> PgMetadataCacheKey<'a> {
         ensures { key_of result ≡ record { schema = cow_text_of schema.entry; name = cow_str_bytes type_name.entry } }
     {
         PgMetadataCacheKey { schema, type_name }
+    }
+
+    /// The key that borrows these texts. It takes no memory.
+    pub(crate) fn borrowed(schema: Option<&'a str>, type_name: &'a str) -> Self
+        ensures { key_of result ≡ record { schema = text_of schema.entry; name = type_name.now } }
+    {
+        let schema = match schema {
+            Some(schema) => Some(CowStr::Borrowed(schema)),
+            None => None,
+        };
+        PgMetadataCacheKey {
+            schema,
+            type_name: CowStr::Borrowed(type_name),
+        }
     }
 
     /// The name of the schema, where one is said.
@@ -93,5 +108,20 @@ impl TypeKey {
             schema,
             type_name: CowStr::Borrowed(self.name.as_str()),
         }
+    }
+
+    /// The same key, with texts of its own.
+    pub(crate) fn copy(&self, alloc: Global) -> Result<TypeKey, NoMemory>
+        ensures { IfOk result (λ key. owned_key key ≡ owned_key self.now) }
+    {
+        let key = self.as_key();
+        TypeKey::new(alloc, key.schema(), key.type_name())
+    }
+
+    /// Whether the key has these texts.
+    pub(crate) fn is(&self, key: &PgMetadataCacheKey<'_>) -> bool
+        ensures { result ≡ is_same_key (owned_key self.now) (key_of key.now) }
+    {
+        self.as_key() == *key
     }
 }

@@ -6,7 +6,7 @@ ghost use Rattle.pgw_meta.specs.Metadata.{metadata_of, found};
 ghost use Rattle.pgw_meta.specs.declared.metadata_lookup.LookupError.TheVariants.{Failed};
 
 use crate::PgTypeMetadata;
-use pgw_wire::NoMemory as NoMemoryLeft;
+use pgw_wire::{Failed as CallFailed, NoMemory as NoMemoryLeft};
 use std::alloc::Global;
 use thiserror::Error;
 
@@ -29,6 +29,17 @@ impl From<NoMemoryLeft> for LookupError {
 
     fn from(_: NoMemoryLeft) -> LookupError {
         LookupError::NoMemory
+    }
+}
+
+impl From<CallFailed> for LookupError {
+    ghost use Rattle.std.specs.Prelude.{◌≡◌};
+    ghost use Rattle.pgw_meta.specs.declared.metadata_lookup.LookupError.TheVariants.{Failed};
+
+    ghost from_gives = { λ _ error. error ≡ Failed };
+
+    fn from(_: CallFailed) -> LookupError {
+        LookupError::Failed
     }
 }
 

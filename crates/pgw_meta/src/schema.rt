@@ -1,10 +1,14 @@
-ghost use Rattle.std.specs.Prelude.{◌≡◌, ◌↔◌, ◌≤◌, None, Some, IfOk, IsOk, OnOk, if◌then◌else◌};
+ghost use Rattle.std.specs.Prelude.{◌≡◌, ◌⊎◌, ◌≤◌, None, Some, Err, IfOk, IsOk, OnOk, if◌then◌else◌};
 ghost use Rattle.std.specs.Result.{result_err};
 ghost use Rattle.pgw_meta.specs.Types.{shape, shapes, column_shapes, types_of};
 ghost use Rattle.pgw_meta.specs.Schema.{IsValidSchema, schema_fault, fault_number, fault_at, width_fault, is_nullable, is_array, without_null, has_ranges, may_be_named};
 ghost use Rattle.pgw_meta.specs.Walk.{type_fault, parts_fault};
+ghost use Rattle.pgw_meta.specs.Needs.{needed_keys, needs_of};
+ghost use Rattle.pgw_meta.specs.declared.schema.SchemaError.TheVariants.{NoMemory as no_memory};
 
-use crate::{PgType, TypeList};
+use crate::needs::needs_of_columns;
+use crate::{NeedList, PgType, TypeList};
+use pgw_wire::NoMemory as NoMemoryLeft;
 use std::alloc::Global;
 use std::marker::Model;
 use thiserror::Error;
@@ -71,6 +75,17 @@ pub enum SchemaError {
     NoMemory,
 }
 
+impl From<NoMemoryLeft> for SchemaError {
+    ghost use Rattle.std.specs.Prelude.{◌≡◌};
+    ghost use Rattle.pgw_meta.specs.declared.schema.SchemaError.TheVariants.{NoMemory};
+
+    ghost from_gives = { λ _ error. error ≡ NoMemory };
+
+    fn from(_: NoMemoryLeft) -> SchemaError {
+        SchemaError::NoMemory
+    }
+}
+
 impl SchemaError {
     /// The error's number, from 1, in the order of the variants.
     pub fn number(&self) -> u8
@@ -91,15 +106,17 @@ impl SchemaError {
     }
 }
 
-/// The types of the columns of a stream. They are valid wherever there is one: contracts see the list of the types, and
-/// `columns` tells that it is valid.
+/// The types of the columns of a stream, and what they need of named types. They are valid wherever there is one:
+/// contracts see the list of the types, and `columns` tells that it is valid.
 #[derive(Debug, Drop)]
 pub struct Schema {
     columns: TypeList,
+    needs: NeedList,
 }
 
 impl Model for Schema {
-    ghost use Rattle.std.specs.Prelude.{List};
+    ghost use Rattle.std.specs.Prelude.{◌≡◌, List};
+    ghost use Rattle.pgw_meta.specs.Needs.{needed_keys, needs_of};
     ghost use Rattle.pgw_meta.specs.declared.types.PgType.{PgType as Tree};
     ghost use Rattle.pgw_meta.specs.contracts.types.PgType as tree;
     ghost use Rattle.pgw_meta.specs.Types.{types_of, column_shapes};
@@ -112,21 +129,24 @@ impl Model for Schema {
 
     ghost view = { λ s. types_of s.columns };
 
-    ghost invariant = { λ s. IsValidSchema (column_shapes (types_of s.columns)) };
+    ghost invariant = { λ s. IsValidSchema (column_shapes (types_of s.columns))
+        × (needed_keys s.needs ≡ needs_of (column_shapes (types_of s.columns))) };
 }
 
 impl Schema {
     /// The schema of these columns, where they are valid. Else the first fault: that there is no column, that there are
-    /// too many, or that of the first type that has one, as the columns are walked in order, each type before its parts.
-    /// Of the faults of one type `TooDeep` is the first. It takes no memory.
+    /// too many, or the first in the order of the columns, where that of a type comes before those of its parts.
+    /// Of the faults of one type `TooDeep` is the first. Memory is asked for what valid columns need of named types.
     #[tactic(auto, using(crate::proofs::Faults::valid_without_fault, crate::proofs::Faults::no_fault_where_valid))]
-    pub fn new(_alloc: Global, columns: TypeList) -> Result<Schema, SchemaError>
+    pub fn new(alloc: Global, columns: TypeList) -> Result<Schema, SchemaError>
         ensures columns { IfOk result (λ schema. schema ≡ types_of columns) }
-        ensures valid { IsOk result ↔ IsValidSchema (column_shapes (types_of columns)) }
-        ensures fault { result_err result ≡ schema_fault (column_shapes (types_of columns)) }
+        ensures valid { IsOk result → IsValidSchema (column_shapes (types_of columns)) }
+        ensures fault { (result_err result ≡ schema_fault (column_shapes (types_of columns)))
+            ⊎ ((result ≡ Err no_memory) × IsValidSchema (column_shapes (types_of columns))) }
     {
         check_columns(columns.as_slice())?;
-        Ok(Schema { columns })
+        let needs = needs_of_columns(alloc, columns.as_slice())?;
+        Ok(Schema { columns, needs })
     }
 
     /// The types of the columns.
@@ -135,6 +155,14 @@ impl Schema {
         ensures valid { IsValidSchema (column_shapes self.now) }
     {
         &self.columns
+    }
+
+    /// What the columns need of named types, in the order in which their fields hold it, and each key once. A field of an
+    /// array holds the oid of its elements, and one of a record that of each component.
+    pub fn needs(&self) -> &NeedList
+        ensures { needed_keys result.now ≡ needs_of (column_shapes self.now) }
+    {
+        &self.needs
     }
 }
 

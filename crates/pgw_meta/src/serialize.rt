@@ -19,8 +19,8 @@ pub enum WriteError {
     /// Number 2 of these errors: the lookup failed.
     #[error("the lookup failed")]
     LookupFailed,
-    /// Number 3 of these errors: a numeric has more than 65535 digits, or a count of elements or the bytes of a piece are
-    /// more than 2147483647.
+    /// Number 3 of these errors: more digits than the 65535 that a numeric may have, or more elements or bytes of a piece
+    /// than 2147483647.
     #[error("too many digits, elements or bytes")]
     TooMany,
     /// Number 4 of these errors: a number in a JSON value fits neither 64 bits with a sign nor 64 bits without one.

@@ -1,6 +1,6 @@
 use crate::{
-    FailedToLookupTypeError, Found, FoundOids, InnerPgTypeMetadata, LookupError, NameText,
-    PgMetadataCacheKey, PgType, PgTypeMetadata, SchemaError, TypeKey, TypeList,
+    CatalogError, FailedToLookupTypeError, Found, FoundOids, InnerPgTypeMetadata, LookupError,
+    NameText, PgMetadataCacheKey, PgType, PgTypeMetadata, SchemaError, TypeKey, TypeList,
 };
 use std::alloc::{AllocError, Global};
 use std::borrow::CowStr;
@@ -134,6 +134,13 @@ fn errors_have_their_texts(rt: HostRuntime) -> Result<(), Fail> {
         (LookupError::Failed, "the lookup failed"),
         (LookupError::NoMemory, "out of memory"),
     ];
+    let catalog = [
+        (
+            CatalogError::Repeated,
+            "the name stands in the schema already",
+        ),
+        (CatalogError::NoMemory, "out of memory"),
+    ];
     let unknown = [
         (
             unknown(alloc, Some("public"))?,
@@ -146,6 +153,7 @@ fn errors_have_their_texts(rt: HostRuntime) -> Result<(), Fail> {
     ];
     assert!(rt; first_other(alloc, &schema)? == None);
     assert!(rt; first_other(alloc, &lookup)? == None);
+    assert!(rt; first_other(alloc, &catalog)? == None);
     assert!(rt; first_other(alloc, &unknown)? == None);
     Ok(())
 }

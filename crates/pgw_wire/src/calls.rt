@@ -58,6 +58,13 @@ impl FailingCalls {
         self.faults = self.faults.saturating_add(1);
     }
 
+    /// How many calls there were.
+    pub fn calls(&self) -> u64
+        ensures { result ≡ self.now.calls }
+    {
+        self.calls
+    }
+
     /// How many calls failed.
     pub fn faults(&self) -> u64
         ensures { result ≡ self.now.faults }

@@ -1,4 +1,4 @@
-/// A field as a stream or a nested value carries it.
+/// What a field holds, in a stream or inside of a value.
 #[derive(Clone, Copy)]
 pub enum RawCell<'a> {
     /// No value: the field's length is negative, and no bytes follow it.

@@ -18,10 +18,11 @@ pub enum Break {
     /// The sign of a numeric is none.
     #[error("sign")]
     Sign,
-    /// The family of a network is none, or does not fit the address.
+    /// It is not laid out as a network of its type: its family is none, or its bytes are not those that belong to the
+    /// family and the type.
     #[error("family")]
     Family,
-    /// The prefix of a network is longer than the address.
+    /// The prefix of a network is longer than the address, and all else is right.
     #[error("prefix")]
     Prefix,
     /// An object identifier inside it is 0.

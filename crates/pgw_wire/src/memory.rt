@@ -30,7 +30,7 @@ impl Model for MemorySource {
 }
 
 impl MemorySource {
-    /// A source of these bytes. The read with number k, counted from 0, fails exactly where k is in `fails`. The
+    /// A source of these bytes. Reads are counted from 0, and those whose numbers stand in `fails` fail, no others. The
     /// read that is the i-th to succeed gives at most `cuts[i]` bytes, where 0 counts as 1, and behind the list as
     /// many as there is room for.
     pub fn new(bytes: Vec<u8>, cuts: Vec<usize>, fails: Vec<u64>) -> MemorySource

@@ -10,7 +10,7 @@ pub trait Source {
     /// that had left and its count when the wrapper was made. Where it stands on nothing else it says nothing.
     ghost Origin: { Type 0 } = { Unit {0} };
 
-    /// What is told of it: the bytes still to come, where it tells them; how many of its calls failed, a count that stops
+    /// What is told of it: the bytes that it has left, where it tells these; how many of its calls failed, a count that stops
     /// at the largest `u64`; and on which object it stands.
     ghost state: { Self → SourceState Origin };
 

@@ -1,14 +1,15 @@
 use Rattle.std.proofs.Common.{sym, ap, ◌∙◌, subst, map, string_bytes}
-use Rattle.pgw_meta.specs.Types.{column_shapes}
+use Rattle.pgw_meta.specs.Types.{column_shapes, types_of}
 use Rattle.pgw_meta.specs.Schema.{IsValidSchema}
 use Rattle.pgw_tree.specs.ColumnTypes.{AreBuilt}
-use Rattle.pgcopy.proofs.TypeNames.{all_known, words_valid}
+use Rattle.pgcopy.proofs.TypeNames.{all_known, words_valid, only_memory}
 use Rattle.pgcopy.proofs.words.known_schema.Goals as goal
 
-pub unwrap-requires : goal.unwrap-requires
-unwrap-requires c = c.new.ensures.valid.1 (subst IsValidSchema (sym c.in_ok-columns.ensures) (words_valid (map string_bytes c.args.words.now) c.requires.some c.requires.few))
+pub unreachable-requires : goal.unreachable-requires
+unreachable-requires c =
+    let valid = subst IsValidSchema (sym c.in_ok-columns.ensures) (words_valid (map string_bytes c.args.words.now) c.requires.some c.requires.few) in
+    c.in_default.not-NoMemory (only_memory (column_shapes (types_of c.in_ok-columns.columns)) c.new.result c.in-Err.error valid c.new.ensures.fault c.in-Err.is)
 
-pub returns-clause-built : goal.returns-clause-built
-returns-clause-built c =
-    let same = rw c.unwrap.ensures at c.new.ensures.columns in
-    subst AreBuilt (sym (ap column_shapes same ∙ c.in_ok-columns.ensures)) (all_known (map string_bytes c.args.words.now)).1
+pub returns-in-Ok-clause-built : goal.returns-in-Ok-clause-built
+returns-in-Ok-clause-built c =
+    subst AreBuilt (sym (ap column_shapes c.in-Ok.ensures.columns ∙ c.in_ok-columns.ensures)) (all_known (map string_bytes c.args.words.now)).1
