@@ -12,6 +12,8 @@ mod next_row;
 mod plain;
 mod respell;
 mod rewrite;
+#[cfg(test)]
+mod row_tests;
 mod send_fault;
 mod shown;
 mod stream;
@@ -21,7 +23,7 @@ mod tests;
 pub use fault::CopyFault;
 pub use limits::{FIELD_MAX, Limits};
 pub use pgw_cell::{
-    ByteList, CellFault, Datum, MeasureFault, WriteCellFault, laws, measure_cell, read_cell,
-    rewrite_cell, write_cell,
+    ByteList, CellFault, Datum, DigitList, MeasureFault, WriteCellFault, laws, measure_cell,
+    read_cell, rewrite_cell, write_cell,
 };
 pub use stream::{Copied, recopy};

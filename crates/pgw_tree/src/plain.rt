@@ -70,7 +70,7 @@ fn walk<'a>(columns: &Columns<'_>, field_max: u32, most: u64, bytes: &'a [u8]) -
 }
 
 /// The canonical rows at the front, `most` at most.
-// Inlined, it would keep its counter in memory. For rows of one int4 the walk is made anew, with its columns known.
+// Inlined, it would keep its counter in memory. For rows of one column of four bytes the walk is made anew, with its columns known.
 #[inline(never)]
 pub(crate) fn plain_rows<'a>(
     columns: &Columns<'_>,
