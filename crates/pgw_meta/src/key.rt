@@ -8,6 +8,7 @@ use crate::NameText;
 use pgw_wire::NoMemory;
 use std::alloc::Global;
 use std::borrow::CowStr;
+use std::fmt::{self, Display, Formatter, Write};
 
 /// What a type is looked up by: its name, and the schema that it stands in, where one is said. Two keys are equal where
 /// their texts are, borrowed or owned.
@@ -73,7 +74,7 @@ impl<'a> PgMetadataCacheKey<'a> {
 }
 
 /// A key that owns its texts, for values that are kept.
-#[derive(Debug, Drop)]
+#[derive(Debug, PartialEq, Eq, Drop)]
 pub struct TypeKey {
     /// The schema that the type stands in, where one is said.
     pub schema: Option<NameText>,
@@ -123,5 +124,15 @@ impl TypeKey {
         ensures { result ≡ is_same_key (owned_key self.now) (key_of key.now) }
     {
         self.as_key() == *key
+    }
+}
+
+/// The name, behind that of its schema and a point where one is said.
+impl Display for TypeKey {
+    fn fmt<W: Write>(&self, f: &mut Formatter<W>) -> fmt::Result {
+        match &self.schema {
+            Some(schema) => write!(f, "{}.{}", schema.as_str(), self.name.as_str()),
+            None => write!(f, "{}", self.name.as_str()),
+        }
     }
 }

@@ -51,3 +51,24 @@ impl NameText {
         self.text.as_str()
     }
 }
+
+/// Two are equal where their bytes are.
+impl PartialEq for NameText {
+    ghost use Rattle.std.specs.Str.{bytes_eq};
+    ghost use Rattle.std.specs.Cmp.{partial_equiv_from_equiv};
+    ghost use Rattle.std.specs.Cmp.Lexicographic.{nat_list_eq_equiv};
+
+    ghost eq = { bytes_eq };
+
+    ghost laws = { partial_equiv_from_equiv nat_list_eq_equiv };
+
+    fn eq(&self, other: &NameText) -> bool {
+        self.as_str() == other.as_str()
+    }
+}
+
+impl Eq for NameText {
+    ghost use Rattle.std.specs.Cmp.Lexicographic.{nat_list_eq_equiv};
+
+    ghost laws = { nat_list_eq_equiv };
+}
