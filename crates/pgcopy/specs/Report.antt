@@ -1,11 +1,13 @@
 -- The line and the status that tell what a run came to.
-use Rattle.std.specs.Prelude.{ℕ, zero, suc, ◌/◌, ◌%◌, List, [], ◌∷◌, ◌++◌, slice_index, codes, decimal, ◌⊎◌}
+use Rattle.std.specs.Prelude.{ℕ, zero, suc, ◌/◌, ◌%◌, List, [], ◌∷◌, ◌++◌, slice_index, codes, decimal, ◌⊎◌, Option, None, Some}
 use Rattle.std.specs.Fmt.{signed_decimal}
 use Rattle.pgw_wire.specs.Outside.{SinkState, HasFailed, Wrote, WroteFront}
 use Rattle.pgw_wire.specs.declared.kind.Break.{Break}
 use Rattle.pgw_wire.specs.declared.kind.Break.TheVariants.{Null, Size, Count, Utf8, Sign, Family, Prefix, ZeroOid, Dimensions, Surplus}
+use Rattle.pgw_meta.specs.Known.{Key}
+use Rattle.pgw_meta.specs.Keys.{owned_key}
 use Rattle.pgw_tree.specs.declared.fault.CopyFault.{CopyFault}
-use Rattle.pgw_tree.specs.declared.fault.CopyFault.TheVariants.{BadHeader, BadFlags, Truncated, BadFieldCount, UnexpectedEndOfRow, BadValue, TooLong, RowLimit, ReadFault, WriteFault, NoMemory}
+use Rattle.pgw_tree.specs.declared.fault.CopyFault.TheVariants.{BadHeader, BadFlags, Truncated, BadFieldCount, UnexpectedEndOfRow, BadValue, TooLong, RowLimit, UnknownType, LookupFault, ReadFault, WriteFault, NoMemory}
 use Rattle.pgcopy.specs.declared.words.WordFault.{WordFault}
 use Rattle.pgcopy.specs.declared.words.WordFault.TheVariants.{NoCommand, UnknownCommand, BadNumber, Repeated, NoTypes, Schema, NotYet}
 use Rattle.pgcopy.specs.declared.report.Outcome.{Outcome}
@@ -21,8 +23,11 @@ code_of status_outside = 3
 code_of status_unknown_type = 4
 code_of status_no_memory = 5
 
--- A fault of the source or of the sink, and want of memory, say nothing of the stream. Each other fault refuses it.
+-- A fault of the lookup, of the source or of the sink, a type that is not known, and want of memory say nothing of the
+-- stream. Each other fault refuses it.
 abbrev pub fault_status : CopyFault → Status
+fault_status (UnknownType key) = status_unknown_type
+fault_status LookupFault = status_outside
 fault_status ReadFault = status_outside
 fault_status WriteFault = status_outside
 fault_status NoMemory = status_no_memory
@@ -68,6 +73,14 @@ kind_text Surplus = codes "surplus"
 abbrev pub field_text : ℕ → ℕ → List ℕ → List ℕ
 field_text row column text = codes "row " ++ decimal row ++ codes " column " ++ decimal column ++ codes ": " ++ text
 
+-- the name of a type, behind that of its schema and a point where one is said
+abbrev pub key_text : Option (List ℕ) → List ℕ → List ℕ
+key_text None name = name
+key_text (Some schema) name = schema ++ codes "." ++ name
+
+abbrev pub unknown_text : Key → List ℕ
+unknown_text key = codes "unknown type " ++ key_text key.schema key.name
+
 abbrev pub copy_fault_text : CopyFault → List ℕ
 copy_fault_text BadHeader = codes "bad header"
 copy_fault_text (BadFlags flags) = codes "bad flags " ++ flags_text flags
@@ -77,6 +90,8 @@ copy_fault_text (UnexpectedEndOfRow row) = codes "row " ++ decimal row ++ codes 
 copy_fault_text (BadValue row column kind) = field_text row column (kind_text kind)
 copy_fault_text (TooLong row column) = field_text row column (codes "too long")
 copy_fault_text RowLimit = codes "row limit"
+copy_fault_text (UnknownType key) = unknown_text (owned_key key)
+copy_fault_text LookupFault = codes "lookup fault"
 copy_fault_text ReadFault = codes "read fault"
 copy_fault_text WriteFault = codes "write fault"
 copy_fault_text NoMemory = codes "out of memory"

@@ -1,9 +1,11 @@
 use crate::words::{WordError, WordFault};
 use pgw_copy::CopyReadError;
+use pgw_meta::TypeKey;
 use pgw_tree::CopyFault;
 use pgw_wire::{Break, Failed, NoMemory};
 use std::alloc::{AllocError, Global};
 use std::fmt::Display;
+use std::test::Fail;
 
 /// The place of the first error that has another text than the one beside it.
 fn first_other<E: Display>(
@@ -41,7 +43,7 @@ const READ: [(CopyReadError, &str); 6] = [
     (CopyReadError::NoMemory, "out of memory"),
 ];
 
-const COPIED: [(CopyFault, &str); 11] = [
+const COPIED: [(CopyFault, &str); 12] = [
     (CopyFault::BadHeader, "bad header"),
     (CopyFault::BadFlags(0x8001ab), "bad flags 008001AB"),
     (CopyFault::Truncated, "truncated"),
@@ -65,6 +67,7 @@ const COPIED: [(CopyFault, &str); 11] = [
         "row 7 column 2: too long",
     ),
     (CopyFault::RowLimit, "row limit"),
+    (CopyFault::LookupFault, "lookup fault"),
     (CopyFault::WriteFault, "write fault"),
 ];
 
@@ -105,4 +108,22 @@ fn errors_have_their_texts(rt: HostRuntime) {
         first_other(alloc, &[(Failed, "the source or sink failed")]),
         Ok(None)
     );
+}
+
+#[test]
+fn unknown_types_have_their_names(rt: HostRuntime) -> Result<(), Fail> {
+    let alloc = rt.alloc();
+    let in_public = TypeKey::new(alloc, Some("public"), "citext")?;
+    let table = [
+        (
+            CopyFault::UnknownType(TypeKey::new(alloc, None, "citext")?),
+            "unknown type citext",
+        ),
+        (
+            CopyFault::UnknownType(in_public),
+            "unknown type public.citext",
+        ),
+    ];
+    assert!(rt; first_other(alloc, &table)? == None);
+    Ok(())
 }

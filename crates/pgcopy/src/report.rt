@@ -1,9 +1,11 @@
 ghost use Rattle.std.specs.Prelude.{◌≡◌, ℕ, ◌≤◌, ◌++◌, codes};
 ghost use Rattle.std.specs.List.{flat_map};
-ghost use Rattle.pgcopy.specs.Report.{code_of, fault_status, status_of, fault_text, flags_text, kind_text, field_text, copy_fault_text, line_of, WroteUnlessFailed};
+ghost use Rattle.pgw_meta.specs.Keys.{owned_key};
+ghost use Rattle.pgcopy.specs.Report.{code_of, fault_status, status_of, fault_text, flags_text, kind_text, field_text, unknown_text, copy_fault_text, line_of, WroteUnlessFailed};
 
 use crate::words::WordFault;
 use itoa::Buffer;
+use pgw_meta::TypeKey;
 use pgw_tree::CopyFault;
 use pgw_wire::{Break, Sink, send};
 
@@ -44,11 +46,12 @@ impl Status {
 }
 
 /// What a run ended with where the stream was not copied.
-fn fault_status(fault: CopyFault) -> Status
-    ensures { result ≡ fault_status fault }
+fn fault_status(fault: &CopyFault) -> Status
+    ensures { result ≡ fault_status fault.now }
 {
     match fault {
-        CopyFault::ReadFault | CopyFault::WriteFault => Status::Outside,
+        CopyFault::ReadFault | CopyFault::WriteFault | CopyFault::LookupFault => Status::Outside,
+        CopyFault::UnknownType(_) => Status::UnknownType,
         CopyFault::NoMemory => Status::NoMemory,
         CopyFault::BadHeader
         | CopyFault::BadFlags(_)
@@ -62,7 +65,7 @@ fn fault_status(fault: CopyFault) -> Status
 }
 
 /// What a run came to.
-#[derive(Clone, Copy, Debug, PartialEq, Eq)]
+#[derive(Debug, PartialEq, Eq, Drop)]
 pub enum Outcome {
     /// This many rows were copied.
     Copied(u64),
@@ -74,8 +77,8 @@ pub enum Outcome {
 
 impl Outcome {
     /// The status that it ends with.
-    pub fn status(self) -> Status
-        ensures { result ≡ status_of self }
+    pub fn status(&self) -> Status
+        ensures { result ≡ status_of self.now }
     {
         match self {
             Outcome::Copied(_) => Status::Copied,
@@ -158,31 +161,47 @@ fn report_field<N: Sink>(row: u64, column: usize, text: &[u8], notes: &mut N)
     );
 }
 
+/// Writes the line of a type that is not known.
+fn report_key<N: Sink>(key: &TypeKey, notes: &mut N)
+    ensures line { WroteUnlessFailed (N.state notes.old) (N.state notes.new) (unknown_text (owned_key key.now) ++ codes "\n") }
+{
+    let name = key.name.as_str().as_bytes();
+    match &key.schema {
+        Some(schema) => {
+            let schema = schema.as_str().as_bytes();
+            send_all(notes, &[b"unknown type ", schema, b".", name, b"\n"]);
+        }
+        None => send_all(notes, &[b"unknown type ", name, b"\n"]),
+    }
+}
+
 /// Writes the line of a stream that was not copied.
-fn report_fault<N: Sink>(fault: CopyFault, notes: &mut N)
-    ensures line { WroteUnlessFailed (N.state notes.old) (N.state notes.new) (copy_fault_text fault ++ codes "\n") }
+fn report_fault<N: Sink>(fault: &CopyFault, notes: &mut N)
+    ensures line { WroteUnlessFailed (N.state notes.old) (N.state notes.new) (copy_fault_text fault.now ++ codes "\n") }
 {
     let mut number = Buffer::new();
     match fault {
         CopyFault::BadHeader => send_all(notes, &[b"bad header\n"]),
         CopyFault::BadFlags(flags) => {
-            let text = flags_text(flags);
+            let text = flags_text(*flags);
             send_all(notes, &[b"bad flags ", &text, b"\n"]);
         }
         CopyFault::Truncated => send_all(notes, &[b"truncated\n"]),
         CopyFault::BadFieldCount(count) => {
-            let count = number.format(count).as_bytes();
+            let count = number.format(*count).as_bytes();
             send_all(notes, &[b"bad field count ", count, b"\n"]);
         }
         CopyFault::UnexpectedEndOfRow { row } => {
-            let row = number.format(row).as_bytes();
+            let row = number.format(*row).as_bytes();
             send_all(notes, &[b"row ", row, b": too few fields\n"]);
         }
         CopyFault::BadValue { row, column, kind } => {
-            report_field(row, column, kind_text(kind), notes);
+            report_field(*row, *column, kind_text(*kind), notes);
         }
-        CopyFault::TooLong { row, column } => report_field(row, column, b"too long", notes),
+        CopyFault::TooLong { row, column } => report_field(*row, *column, b"too long", notes),
         CopyFault::RowLimit => send_all(notes, &[b"row limit\n"]),
+        CopyFault::UnknownType(key) => report_key(key, notes),
+        CopyFault::LookupFault => send_all(notes, &[b"lookup fault\n"]),
         CopyFault::ReadFault => send_all(notes, &[b"read fault\n"]),
         CopyFault::WriteFault => send_all(notes, &[b"write fault\n"]),
         CopyFault::NoMemory => send_all(notes, &[b"out of memory\n"]),
@@ -190,19 +209,19 @@ fn report_fault<N: Sink>(fault: CopyFault, notes: &mut N)
 }
 
 /// Writes the line of an outcome. It takes no memory, and stops where `notes` fails.
-pub fn report<N: Sink>(outcome: Outcome, notes: &mut N)
-    ensures line { WroteUnlessFailed (N.state notes.old) (N.state notes.new) (line_of outcome) }
+pub fn report<N: Sink>(outcome: &Outcome, notes: &mut N)
+    ensures line { WroteUnlessFailed (N.state notes.old) (N.state notes.new) (line_of outcome.now) }
 {
     let mut number = Buffer::new();
     match outcome {
         Outcome::Copied(rows) => send_all(
             notes,
-            &[b"rows ", number.format(rows).as_bytes(), b"\n"],
+            &[b"rows ", number.format(*rows).as_bytes(), b"\n"],
         ),
         Outcome::BadWord { place, fault } => {
             let mut fault_number = Buffer::new();
-            let place = number.format(place).as_bytes();
-            let (text, fault_number) = fault_text(fault, &mut fault_number);
+            let place = number.format(*place).as_bytes();
+            let (text, fault_number) = fault_text(*fault, &mut fault_number);
             send_all(notes, &[b"word ", place, b": ", text, fault_number, b"\n"]);
         }
         Outcome::Fault(fault) => report_fault(fault, notes),

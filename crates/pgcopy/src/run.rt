@@ -134,6 +134,6 @@ pub fn run<S: Source, K: Sink, N: Sink>(
     ensures noted { Gains (N.state notes.old) (N.state notes.new) }
 {
     let outcome = execute(alloc, words, source, sink);
-    report(outcome, notes);
+    report(&outcome, notes);
     outcome.status()
 }

@@ -6,7 +6,7 @@ use Rattle.std.specs.Int.{Width, to_be_bytes, from_be_bytes, cast_signed}
 use Rattle.std.proofs.lemmas.Bool.{cases_lt}
 use Rattle.std.proofs.lemmas.List.{take_rest, get_or-append-add}
 use Rattle.pgw_wire.specs.Cell.{Cell, frame, size_of}
-use Rattle.pgw_meta.specs.Shape.{Scalar, bool, char, int2, int4, int8, oid, text, bytea, uuid, money, pg_lsn, macaddr, macaddr8, inet, cidr, date, time, timestamp, timestamptz, interval, numeric, Shape, scalar, nullable}
+use Rattle.pgw_meta.specs.Shape.{Scalar, bool, char, int2, int4, int8, oid, text, bytea, uuid, money, pg_lsn, macaddr, macaddr8, inet, cidr, date, time, timestamp, timestamptz, interval, numeric, Shape, scalar, nullable, named}
 use Rattle.pgw_scalar.proofs.Readers.{IsBytes}
 use Rattle.pgw_scalar.proofs.Whole.{HasSize, size_16, size_32, size_64, signed_bytes_are, unsigned_bytes_are}
 use Rattle.pgw_time.specs.Interval.{interval_bytes, first_interval}
@@ -106,6 +106,7 @@ spelling_same numeric p byte h = record { value = numeric_value h.0; spells = (h
 piece_same : (t : Shape) (p : List ℕ) → IsBytes p → Passes (plain_rule t) p → IsSame (SpellsPiece t) (canonical_piece t) p
 piece_same (scalar s) p byte h = spelling_same s p byte h
 piece_same (nullable t) p byte h = piece_same t p byte h
+piece_same (named k t) p byte h = piece_same t p byte h
 piece_same _ p byte h = absurd h
 
 -- The parts of bytes are bytes.

@@ -5,7 +5,8 @@ use Rattle.std.proofs.Common.{◌≡◌, ℕ, pos, negsuc, [], ◌∷◌, get_or
 use lib.Utf8.{encode}
 use Rattle.pgw_wire.specs.declared.kind.Break.{Break}
 use Rattle.pgw_wire.specs.declared.kind.Break.TheVariants.{Null, Size, Utf8, Sign, Family, Prefix}
-use Rattle.pgw_meta.specs.Shape.{scalar, nullable, array, bool, char, int2, int4, int8, oid, text, bytea, uuid, money, pg_lsn, macaddr, macaddr8, inet, cidr, interval, numeric}
+use Rattle.pgw_meta.specs.Known.{Key}
+use Rattle.pgw_meta.specs.Shape.{scalar, nullable, array, named, bool, char, int2, int4, int8, oid, text, bytea, uuid, money, pg_lsn, macaddr, macaddr8, inet, cidr, interval, numeric}
 use Rattle.pgw_scalar.proofs.TextFields.{no_utf8}
 use Rattle.pgw_scalar.specs.Networks.{Network}
 use Rattle.pgw_numeric.specs.Numeric.{number as number_of, not_a_number}
@@ -123,6 +124,19 @@ broken_text = (refl, no_utf8 (195 ∷ 40 ∷ []) tested)
 pub bytes_are_no_string : Spells (scalar bytea) (Some (97 ∷ [])) (string (97 ∷ [])) → ⊥
 bytes_are_no_string h = let e = h.2 in absurd (cc)
 
+-- A named type has the values of its part, spelled as there, and breaks as there.
+abbrev citext : Key
+citext = record { schema = None; name = 99 ∷ 105 ∷ 116 ∷ 101 ∷ 120 ∷ 116 ∷ [] }
+
+pub named_letter : read_value (named citext (scalar text)) (Some (195 ∷ 169 ∷ [])) ≡ Ok (string (195 ∷ 169 ∷ []))
+named_letter = e_acute
+
+pub named_written : canonical_cell (named citext (scalar text)) (string (195 ∷ 169 ∷ [])) ≡ Some (195 ∷ 169 ∷ [])
+named_written = refl
+
+pub named_broken : Breaks (named citext (scalar text)) Utf8 (Some (195 ∷ 40 ∷ []))
+named_broken = broken_text
+
 -- 192.168.0.1/24 is an inet and no cidr, whose third byte is 1. A prefix of 33 bits breaks as prefix.
 abbrev host : Network
 host = record { six = false; prefix = 24; address = 192 ∷ 168 ∷ 0 ∷ 1 ∷ [] }
@@ -185,6 +199,13 @@ null_allowed kind h = absurd (cc)
 pub null_written : canonical_cell (nullable (scalar text)) null ≡ None
 null_written = refl
 
+-- A named type may be null where a nullable stands around it, and not by its part.
+pub null_of_named : Spells (nullable (named citext (scalar text))) None null
+null_of_named = (refl, refl)
+
+pub null_of_part : Breaks (named citext (nullable (scalar text))) Null None
+null_of_part = (refl, refl)
+
 -- Values of the types: a number that fits, one that does not, and a null where there are none.
 pub has_255 : HasType (scalar char) (natural 255)
 has_255 = (255, refl, lit< tt)
@@ -211,9 +232,12 @@ two_fit = lit≤ tt
 pub three_do_not : Fits 2 (scalar text) (string (97 ∷ 98 ∷ 99 ∷ [])) → ⊥
 three_do_not h = omega (arith, h)
 
--- Which types have a spelling, or are one of these or null.
+-- Which types have a spelling, or are nullable or named over one of these.
 pub uuid_or_null : IsBuilt (nullable (scalar uuid))
 uuid_or_null = tt
+
+pub citext_or_null : IsBuilt (nullable (named citext (scalar text)))
+citext_or_null = tt
 
 pub no_array_yet : IsBuilt (array (scalar int4)) → ⊥
 no_array_yet h = h

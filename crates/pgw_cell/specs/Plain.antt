@@ -2,7 +2,7 @@
 use Rattle.std.specs.Prelude.{◌≡◌, ℕ, false, ◌≤◌, ◌⊎◌, List, [], ◌∷◌, ◌++◌, length, Some}
 use Rattle.std.specs.Str.{IsUtf8}
 use Rattle.pgw_wire.specs.Cell.{frame}
-use Rattle.pgw_meta.specs.Shape.{Scalar, bool, char, int2, int4, int8, oid, text, bytea, uuid, money, pg_lsn, macaddr, macaddr8, inet, cidr, date, time, timestamp, timestamptz, interval, numeric, Shape, scalar, nullable}
+use Rattle.pgw_meta.specs.Shape.{Scalar, bool, char, int2, int4, int8, oid, text, bytea, uuid, money, pg_lsn, macaddr, macaddr8, inet, cidr, date, time, timestamp, timestamptz, interval, numeric, Shape, scalar, nullable, named}
 use Rattle.pgw_meta.specs.Schema.{is_nullable}
 use Rattle.pgw_scalar.specs.Networks.{Network, IsNetwork}
 use Rattle.pgw_numeric.specs.Numeric.{Numeric as Number, IsNumeric, numeric_bytes}
@@ -46,6 +46,7 @@ scalar_rule numeric = Numeric
 abbrev pub plain_rule : Shape → Rule
 plain_rule (scalar s) = scalar_rule s
 plain_rule (nullable t) = plain_rule t
+plain_rule (named k t) = plain_rule t
 plain_rule _ = Nothing
 
 -- what is kept of a column of the type

@@ -154,7 +154,7 @@ pub(crate) fn written<'a>(t: &PgType, piece: &'a [u8]) -> Result<Canonical<'a>, 
         PgType::Timestamptz => whole(8, piece),
         PgType::Interval => front(16, piece),
         PgType::Numeric => numeric(piece),
-        PgType::Nullable(part) => written(part, piece),
+        PgType::Nullable(part) | PgType::Named(_, part) => written(part, piece),
         _ => Err(Break::Size),
     }
 }

@@ -114,7 +114,7 @@ fn rule_of(t: &PgType) -> Rule
         PgType::Time | PgType::Timestamp | PgType::Timestamptz => Rule::Eight,
         PgType::Interval => Rule::Sixteen,
         PgType::Numeric => Rule::Numeric,
-        PgType::Nullable(part) => rule_of(part),
+        PgType::Nullable(part) | PgType::Named(_, part) => rule_of(part),
         _ => Rule::Nothing,
     }
 }

@@ -259,7 +259,7 @@ fn read_piece(alloc: Global, t: &PgType, piece: &[u8]) -> Result<Datum, CellFaul
         PgType::Time | PgType::Timestamp | PgType::Timestamptz => number(read_int8(piece)),
         PgType::Interval => read_interval(alloc, piece),
         PgType::Numeric => read_numeric(alloc, piece),
-        PgType::Nullable(part) => read_piece(alloc, part, piece),
+        PgType::Nullable(part) | PgType::Named(_, part) => read_piece(alloc, part, piece),
         _ => Err(CellFault::Break(Break::Size)),
     }
 }

@@ -13,7 +13,7 @@ pub(crate) const NULL: [u8; 4] = [0xff; 4];
 
 /// Appends the canonical field of the value that the cell spells, into the room that was made for it. The cell has to
 /// spell a value, of at most 2147483647 canonical bytes: `measure_cell` says whether it does, and how much room the
-/// field takes. It takes no memory. No type asks for `found` yet: types that are looked up by their names will.
+/// field takes. It takes no memory. No type asks for `found` yet: arrays and records, whose fields hold oids, will.
 #[inline(always)]
 pub fn rewrite_cell(t: &PgType, cell: RawCell<'_>, _found: &FoundOids, out: &mut ByteBuffer)
     requires { (v : Value) × Spells (shape t.now) (cell_of cell) v × Fits 2147483647 (shape t.now) v

@@ -1,3 +1,4 @@
+ghost use Rattle.std.specs.Prelude.{IfOk};
 ghost use Rattle.pgw_meta.specs.Types.{shape};
 ghost use Rattle.pgw_cell.specs.Built.{IsBuilt};
 
@@ -5,10 +6,18 @@ use crate::{
     ByteList, CellFault, Datum, DigitList, MeasureFault, PlainCell, WriteCellFault, laws,
     measure_cell, read_cell, rewrite_cell, write_cell,
 };
-use pgw_meta::{FoundOids, NameText, PgType};
-use pgw_wire::{Break, ByteBuffer, RawCell};
+use pgw_meta::{FoundOids, NameText, PgType, TypeKey};
+use pgw_wire::{Break, ByteBuffer, NoMemory, RawCell};
 use std::alloc::Global;
 use std::test::Fail;
+
+/// The type `citext`, whose values are texts.
+fn citext(alloc: Global) -> Result<PgType, NoMemory>
+    ensures { IfOk result (λ t. IsBuilt (shape t)) }
+{
+    let key = TypeKey::new(alloc, None, "citext")?;
+    Ok(PgType::Named(key, Box::new(alloc, PgType::Text)?))
+}
 
 /// What is measured of a piece, at a limit of 16 bytes.
 fn measured(t: &PgType, piece: &[u8]) -> Result<usize, MeasureFault>
@@ -154,7 +163,7 @@ impl Both {
 
 const CANONICAL: &[u8] = b"\0\0\0\x01\x01\0\0\0\x01A\0\0\0\x02\xff\xfe\
     \0\0\0\x04\xff\0\0\x2a\0\0\0\x08\xff\0\0\0\0\0\0\x01\0\0\0\0\
-    \0\0\0\x100123456789abcdef\0\0\0\x02\xc3\xa9\xff\xff\xff\xff";
+    \0\0\0\x100123456789abcdef\0\0\0\x02\xc3\xa9\xff\xff\xff\xff\0\0\0\x01z";
 
 const PARTS: &[u8] = b"\0\0\0\x08\x02\x18\0\x04\xc0\xa8\0\x01\
     \0\0\0\x100123456789abcdef\
@@ -196,6 +205,7 @@ fn cells_are_written_in_their_canonical_form(rt: HostRuntime) -> Result<(), Fail
     both.piece(&PgType::Uuid, b"0123456789abcdef")?;
     both.piece(&text, b"\xc3\xa9")?;
     both.cell(&text, RawCell::Null)?;
+    both.piece(&citext(alloc)?, b"z")?;
     let bytes = (both.rewritten.as_bytes(), both.written.as_bytes());
     assert!(rt; bytes == (CANONICAL, CANONICAL));
     Ok(())
@@ -245,6 +255,7 @@ fn fields_pass_as_they_stand(rt: HostRuntime) -> Result<(), Fail> {
         behind(&text, b"\0\0\0\x02\xc3\x28\x07"),
         behind(&text, b"\xff\xff\xff\xff\x07\x07\x07"),
         behind(&PgType::Inet, b"\0\0\0\x01\xff"),
+        behind(&citext(rt.alloc())?, b"\0\0\0\x01z\x07"),
     ];
     let expected = [
         Some(1),
@@ -257,6 +268,7 @@ fn fields_pass_as_they_stand(rt: HostRuntime) -> Result<(), Fail> {
         None,
         Some(3),
         None,
+        Some(1),
     ];
     assert!(rt; behind == expected);
     assert!(rt; PlainCell::of(&PgType::Int4) == PlainCell::four_bytes());

@@ -256,7 +256,7 @@ fn write_piece(
         }
         PgType::Interval => write_field(&interval_bytes(value), field_max, out),
         PgType::Numeric => write_numeric(value, field_max, out),
-        PgType::Nullable(part) => write_piece(part, value, field_max, out),
+        PgType::Nullable(part) | PgType::Named(_, part) => write_piece(part, value, field_max, out),
         _ => unreachable!(),
     }
 }
@@ -286,8 +286,8 @@ fn write(
 
 /// Appends the canonical field of a value of the type: the length of its bytes, and those. `TooLong` exactly where they
 /// are more than `field_max`, and `NoMemory` only where they are not; after either the bytes of the buffer are as
-/// before. Where the field fits the spare of the buffer it takes no memory. No type asks for `found` yet: types that
-/// are looked up by their names will.
+/// before. Where the field fits the spare of the buffer it takes no memory. No type asks for `found` yet: arrays and
+/// records, whose fields hold oids, will.
 pub fn write_cell(
     t: &PgType,
     value: &Datum,

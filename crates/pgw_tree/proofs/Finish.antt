@@ -1,7 +1,7 @@
 -- What the answer of a copy is, in the words of its public contract.
-use Rattle.std.proofs.Common.{rules, ◌≡◌, ◌⊎◌, ℕ, List, ◌++◌, Result, Ok, Err, refl, sym, ap, subst, inl, inr, length, true, option_map}
+use Rattle.std.proofs.Common.{rules, ◌≡◌, ◌⊎◌, ℕ, List, ◌++◌, Some, Result, Ok, Err, refl, sym, ap, subst, inl, inr, length, true, option_map}
 use Rattle.std.specs.Result.{IsOkUnless, IfOk, OnOk}
-use Rattle.std.specs.Prelude.{⊤, IsErr}
+use Rattle.std.specs.Prelude.{⊤, IsErr, IsErrAnd}
 use Rattle.pgw_wire.specs.Outside.{SourceState, SinkState, left, settled, HasFailed, Took, HasFront, HasNoFront, Gains, Wrote, Settled}
 use Rattle.pgw_wire.proofs.Taking.{took_weaker, took_from, ended}
 use Rattle.pgw_wire.proofs.Adding.{wrote_gains}
@@ -13,7 +13,8 @@ use Rattle.pgw_meta.specs.Shape.{Shape}
 use Rattle.pgw_cell.specs.Value.{Value}
 use Rattle.pgw_tree.specs.Stream.{IsStream, IsValidStream, IsWithin}
 use Rattle.pgw_tree.specs.Limits.{Limits}
-use Rattle.pgw_tree.specs.Causes.{Form, IsCopied, fault_says, in_header, in_row, in_end}
+use Rattle.pgw_tree.specs.Lookups.{IsLookupFault}
+use Rattle.pgw_tree.specs.Causes.{Form, IsCopied, fault_says, copy_says, in_header, in_row, in_end}
 use Rattle.pgw_tree.specs.Copying.{Copies}
 use Rattle.pgw_tree.proofs.Excluded.{excluded}
 use Rattle.pgw_tree.proofs.Unique.{stream_once}
@@ -27,7 +28,7 @@ copied_rows limits ts form n Written taken rows stream within many written = rec
 
 -- what a copy takes, and what it writes
 abbrev pub Answer : {S K : Type 0} → Limits → List Shape → Form → SourceState S → SourceState S → SinkState K → SinkState K → Result Copied CopyFault → Type 0
-Answer limits ts form a b before now r = Copies a b r (λ c. IsCopied limits ts form c.rows (Settled before now)) (λ fault. fault_says limits ts form fault (Wrote before now))
+Answer limits ts form a b before now r = Copies a b r (λ c. IsCopied limits ts form c.rows (Settled before now)) (λ fault. copy_says limits ts form fault (Wrote before now))
 
 pub copied_ok : {S K : Type 0} (limits : Limits) (ts : List Shape) (form : Form) (a b : SourceState S) (before now : SinkState K) (r : Result Copied CopyFault) → Answer limits ts form a b before now r → IfOk r (λ c. Took a b (IsCopied limits ts form c.rows (Settled before now)))
 copied_ok limits ts form a b before now (Ok n) h = h.ok n refl
@@ -39,16 +40,21 @@ settled_ok limits ts form a b before now (Err e) h = tt
 
 -- A valid stream is copied, unless memory runs out or an object outside failed.
 pub complete : {S K : Type 0} (limits : Limits) (ts : List Shape) (form : Form) (a b : SourceState S) (before now : SinkState K) (r : Result Copied CopyFault) → Answer limits ts form a b before now r → (r ≡ Err WriteFault → HasFailed before now)
-    → HasFront (left a) (IsValidStream limits ts) → (HasFailed a b → ⊥) → (HasFailed before now → ⊥) → IsOkUnless r NoMemory
-complete limits ts form a b before now (Ok n) h write valid well_read well_written = tt
-complete limits ts form a b before now (Err e) h write valid well_read well_written =
+    → (IsErrAnd r IsLookupFault → ⊥) → HasFront (left a) (IsValidStream limits ts) → (HasFailed a b → ⊥) → (HasFailed before now → ⊥) → IsOkUnless r NoMemory
+complete limits ts form a b before now (Ok n) h write found valid well_read well_written = tt
+complete limits ts form a b before now (Err e) h write found valid well_read well_written =
     let t = took_from a b _ (h.err e refl) (valid.front ++ valid.rest) valid.is in
-    by_fault (excluded limits ts form e (Wrote before now) t.taken t.rest valid.front valid.rest t.has (λ is. ended (left b) t.rest (h.at_end (ap Err is)) t.now_is) valid.has (sym t.left_is))
+    by_says t.taken t.rest t.now_is t.left_is t.has
   where
     by_fault : (e ≡ ReadFault) ⊎ (e ≡ WriteFault) ⊎ (e ≡ NoMemory) → IsOkUnless {T = Copied} (Err e) NoMemory
     by_fault (inl is) = absurd (well_read (h.has_failed (ap Err is)))
     by_fault (inr (inl is)) = absurd (well_written (write (ap Err is)))
     by_fault (inr (inr is)) = is
+
+    by_says : (taken rest : List ℕ) → left b ≡ Some rest → valid.front ++ valid.rest ≡ taken ++ rest → copy_says limits ts form e (Wrote before now) taken → IsOkUnless {T = Copied} (Err e) NoMemory
+    by_says taken rest now_is left_is (inl l) = absurd (found l.0)
+    by_says taken rest now_is left_is (inr says) =
+        by_fault (excluded limits ts form e (Wrote before now) taken rest valid.front valid.rest says (λ is. ended (left b) rest (h.at_end (ap Err is)) now_is) valid.has (sym left_is))
 
 -- What is told to begin with no valid stream is not copied.
 pub refused : {S K : Type 0} (limits : Limits) (ts : List Shape) (form : Form) (a b : SourceState S) (before now : SinkState K) (r : Result Copied CopyFault) → Answer limits ts form a b before now r → HasNoFront (left a) (IsValidStream limits ts) → IsErr r
@@ -62,13 +68,14 @@ pub taken_of : {S K : Type 0} (limits : Limits) (ts : List Shape) (form : Form) 
 taken_of limits ts form a b before now (Ok n) h = took_weaker (h.ok n refl) (λ _ _. tt)
 taken_of limits ts form a b before now (Err e) h = took_weaker (h.err e refl) (λ _ _. tt)
 
-written_gained : {K : Type 0} {limits : Limits} {ts : List Shape} {form : Form} {fault : CopyFault} {a b : SinkState K} (taken : List ℕ) → fault_says limits ts form fault (Wrote a b) taken → Gains a b
-written_gained taken (inl h) = wrote_gains h.1
-written_gained taken (inr (inl h)) = wrote_gains h.written
-written_gained taken (inr (inr (is, in_header header p))) = wrote_gains p.written
-written_gained taken (inr (inr (is, in_row rows last next begins within form_is p))) = wrote_gains p.written
-written_gained taken (inr (inr (is, in_end rows front begins within end (inl p)))) = wrote_gains p.written
-written_gained taken (inr (inr (is, in_end rows front begins within end (inr w)))) = wrote_gains w
+written_gained : {K : Type 0} {limits : Limits} {ts : List Shape} {form : Form} {fault : CopyFault} {a b : SinkState K} (taken : List ℕ) → copy_says limits ts form fault (Wrote a b) taken → Gains a b
+written_gained taken (inl h) = wrote_gains h.2
+written_gained taken (inr (inl h)) = wrote_gains h.1
+written_gained taken (inr (inr (inl h))) = wrote_gains h.written
+written_gained taken (inr (inr (inr (is, in_header header p)))) = wrote_gains p.written
+written_gained taken (inr (inr (inr (is, in_row rows last next begins within form_is p)))) = wrote_gains p.written
+written_gained taken (inr (inr (inr (is, in_end rows front begins within end (inl p))))) = wrote_gains p.written
+written_gained taken (inr (inr (inr (is, in_end rows front begins within end (inr w))))) = wrote_gains w
 
 -- Whatever the answer, the sink has what it had, and what was written behind it.
 pub gained_of : {S K : Type 0} (limits : Limits) (ts : List Shape) (form : Form) (a b : SourceState S) (before now : SinkState K) (r : Result Copied CopyFault) → Answer limits ts form a b before now r → Gains before now

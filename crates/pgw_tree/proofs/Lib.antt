@@ -6,9 +6,13 @@ pub mod Worked
 pub mod WorkedColumns
 pub mod WorkedRuns
 pub mod WorkedCauses
+pub mod WorkedLookups
 pub mod Parts
 pub mod Copies
 pub mod Finish
+pub mod Found
+pub mod Covered
+pub mod LookedUp
 pub mod PlainRows
 pub mod Rewritten
 pub mod Respelled

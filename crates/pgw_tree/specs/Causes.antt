@@ -13,6 +13,7 @@ use Rattle.pgw_cell.specs.Value.{Value}
 use Rattle.pgw_tree.specs.Columns.{BreaksAt, IsLongAt}
 use Rattle.pgw_tree.specs.Stream.{IsFront, IsWithin, IsStream, IsStreamOf}
 use Rattle.pgw_tree.specs.Limits.{Limits}
+use Rattle.pgw_tree.specs.Lookups.{IsLookupFault}
 
 abbrev pub Form : Type 0
 Form = List (List Value) → List ℕ
@@ -99,3 +100,9 @@ abbrev pub fault_says : Limits → List Shape → Form → CopyFault → (List �
 fault_says limits columns form fault Written taken =
     (HeaderCause fault taken × Written []) ⊎ Stopped limits columns form fault Written taken
     ⊎ ((fault ≡ WriteFault) × Unwritten limits columns form Written taken)
+
+-- What a fault of a copy says that looks up first what its columns need: one of the lookup comes before anything is
+-- taken or written, and each other is of the stream.
+abbrev pub copy_says : Limits → List Shape → Form → CopyFault → (List ℕ → Type 0) → List ℕ → Type 0
+copy_says limits columns form fault Written taken =
+    (IsLookupFault fault × (taken ≡ []) × Written []) ⊎ fault_says limits columns form fault Written taken

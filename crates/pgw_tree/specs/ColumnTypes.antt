@@ -18,7 +18,7 @@ IsBuilt-prop (array t) = λ x y. absurd x
 IsBuilt-prop (range t) = λ x y. absurd x
 IsBuilt-prop (multirange t) = λ x y. absurd x
 IsBuilt-prop (composite ts) = λ x y. absurd x
-IsBuilt-prop (named k t) = λ x y. absurd x
+IsBuilt-prop (named k t) = IsBuilt-prop t
 
 pub AreBuilt-prop : (columns : List Shape) → IsProp (AreBuilt columns)
 AreBuilt-prop columns = AllByRecursion-prop IsBuilt IsBuilt-prop columns

@@ -4,6 +4,7 @@ pub mod Canonical
 pub mod Columns
 pub mod Stream
 pub mod Limits
+pub mod Lookups
 pub mod Causes
 pub mod Copying
 pub mod Sending

@@ -1,11 +1,12 @@
 ghost use Rattle.std.specs.Prelude.{◌≡◌};
 
 use pgw_copy::CopyReadError;
+use pgw_meta::{LookupError, TypeKey};
 use pgw_wire::{Break, Failed, NoMemory as NoMemoryLeft};
 use thiserror::Error;
 
 /// Why a stream was not copied. Rows and columns are counted from 0.
-#[derive(Clone, Copy, Debug, PartialEq, Eq, Error)]
+#[derive(Debug, PartialEq, Eq, Error, Drop)]
 pub enum CopyFault {
     /// The first 19 bytes do not begin with those that every stream begins with, or state, behind good flags, a negative
     /// length of the header's extension.
@@ -41,6 +42,12 @@ pub enum CopyFault {
     /// As many rows as the limit were copied, and the count of another one is there.
     #[error("row limit")]
     RowLimit,
+    /// The type of this key, whose oids the columns need, is not known, or an oid that they need of it is 0.
+    #[error("unknown type {0}")]
+    UnknownType(TypeKey),
+    /// The lookup failed.
+    #[error("lookup fault")]
+    LookupFault,
     /// The source failed.
     #[error("read fault")]
     ReadFault,
@@ -65,6 +72,19 @@ impl From<CopyReadError> for CopyFault {
             CopyReadError::BadFieldCount(count) => CopyFault::BadFieldCount(count),
             CopyReadError::ReadFault => CopyFault::ReadFault,
             CopyReadError::NoMemory => CopyFault::NoMemory,
+        }
+    }
+}
+
+impl From<LookupError> for CopyFault {
+    ghost use Rattle.pgw_tree.specs.Lookups.{looked_up_fault};
+
+    ghost from_gives = { λ e f. f ≡ looked_up_fault e };
+
+    fn from(error: LookupError) -> CopyFault {
+        match error {
+            LookupError::Failed => CopyFault::LookupFault,
+            LookupError::NoMemory => CopyFault::NoMemory,
         }
     }
 }

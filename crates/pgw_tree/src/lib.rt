@@ -8,6 +8,9 @@ mod copy_tests;
 mod fault;
 mod fields;
 mod limits;
+mod needs;
+#[cfg(test)]
+mod needs_tests;
 mod next_row;
 mod plain;
 mod respell;

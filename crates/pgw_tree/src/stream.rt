@@ -1,19 +1,24 @@
-ghost use Rattle.std.specs.Prelude.{◌≡◌, ◌<◌, ◌^◌, [], length, true, Err, IfOk, OnOk, IsErr, IsOkUnless, option_map, ⊤};
+ghost use Rattle.std.specs.Prelude.{◌≡◌, ◌⊎◌, ◌<◌, ◌≤◌, ◌^◌, [], length, true, Some, Err, IfOk, OnOk, IsErr, IsErrAnd, IsOkUnless, option_map, ⊤};
 ghost use Rattle.std.specs.Io.KnownBytes.{IsAtEnd};
 ghost use Rattle.pgw_wire.specs.Outside.{left, settled, HasFailed, Took, HasFront, HasNoFront, Gains, Wrote, Settled};
+ghost use Rattle.pgw_meta.specs.Known.{Key, Known, known};
+ghost use Rattle.pgw_meta.specs.Keys.{owned_key};
+ghost use Rattle.pgw_meta.specs.Needs.{needed_keys, needs_of};
 ghost use Rattle.pgw_meta.specs.Types.{column_shapes};
 ghost use Rattle.pgw_tree.specs.ColumnTypes.{AreBuilt};
 ghost use Rattle.pgw_tree.specs.Canonical.{canonical_front};
 ghost use Rattle.pgw_tree.specs.Stream.{IsValidStream};
 ghost use Rattle.pgw_tree.specs.Copying.{Copies};
-ghost use Rattle.pgw_tree.specs.Causes.{IsCopied, fault_says};
+ghost use Rattle.pgw_tree.specs.Lookups.{AreFound, AreMet, Covers, IsFirstUnmet, IsLookupFault, IsUnknownType, HasFailedAsked, first_unmet};
+ghost use Rattle.pgw_tree.specs.Causes.{IsCopied, fault_says, copy_says};
 
 use crate::columns::{Columns, plain_cells_of};
+use crate::needs::look_up_all;
 use crate::next_row::copy_row;
 use crate::shown::copy_shown;
 use crate::{CopyFault, Limits};
 use pgw_copy::{CopyReader, CopyWriter};
-use pgw_meta::{FoundOids, PgMetadataLookup, PgType, Schema};
+use pgw_meta::{FoundOids, Need, PgMetadataLookup, PgType, Schema};
 use pgw_wire::{Sink, Source};
 use std::alloc::Global;
 
@@ -64,6 +69,35 @@ fn copy_stream<S: Source, K: Sink>(
 fn copy_typed<S: Source, K: Sink>(
     alloc: Global,
     types: &[PgType],
+    found: &FoundOids,
+    source: &mut S,
+    sink: &mut K,
+    limits: Limits,
+) -> Result<u64, CopyFault>
+    requires few { length types.now < 2 ^ 15 }
+    requires built { AreBuilt (column_shapes types.now) }
+    ensures takes { Copies (S.state source.old) (S.state source.new) result
+        (λ n. IsCopied limits (column_shapes types.now) (canonical_front (column_shapes types.now)) n
+        (Settled (K.state sink.old) (K.state sink.new)))
+        (λ fault. fault_says limits (column_shapes types.now) (canonical_front (column_shapes types.now)) fault
+        (Wrote (K.state sink.old) (K.state sink.new))) }
+    ensures write_fault { result ≡ Err CopyFault.WriteFault → HasFailed (K.state sink.old) (K.state sink.new) }
+{
+    let plain = plain_cells_of(alloc, types)?;
+    let columns = Columns {
+        types,
+        plain: plain.as_slice(),
+        found,
+    };
+    copy_stream(alloc, &columns, source, sink, limits)
+}
+
+/// Looks up what is needed, and then copies a stream of rows of columns of these types, and settles the sink.
+fn copy_found<L: PgMetadataLookup, S: Source, K: Sink>(
+    alloc: Global,
+    types: &[PgType],
+    needs: &[Need],
+    lookup: &mut L,
     source: &mut S,
     sink: &mut K,
     limits: Limits,
@@ -73,19 +107,28 @@ fn copy_typed<S: Source, K: Sink>(
     ensures takes { Copies (S.state source.old) (S.state source.new) result
         (λ copied. IsCopied limits (column_shapes types.now) (canonical_front (column_shapes types.now)) copied.rows
         (Settled (K.state sink.old) (K.state sink.new)))
-        (λ fault. fault_says limits (column_shapes types.now) (canonical_front (column_shapes types.now)) fault
+        (λ fault. copy_says limits (column_shapes types.now) (canonical_front (column_shapes types.now)) fault
         (Wrote (K.state sink.old) (K.state sink.new))) }
-    ensures oids { IfOk result (λ copied. copied.oids ≡ []) }
     ensures write_fault { result ≡ Err CopyFault.WriteFault → HasFailed (K.state sink.old) (K.state sink.new) }
+    ensures oids { IfOk result (λ copied. AreFound (known (L.state lookup.old)) (needed_keys needs.now) copied.oids) }
+    ensures untouched { IsErrAnd result IsLookupFault → (source.new ≡ source.old) × (sink.new ≡ sink.old) }
+    ensures unknown_type { (key : _) → result ≡ Err (CopyFault.UnknownType key)
+        → IsFirstUnmet (known (L.state lookup.old)) (needed_keys needs.now) (owned_key key) }
+    ensures lookup_fault { result ≡ Err CopyFault.LookupFault
+        → HasFailedAsked (needed_keys needs.now) (L.state lookup.old) (L.state lookup.new) }
+    ensures unmet { (k : Known) (key : Key) → known (L.state lookup.old) ≡ Some k
+        → first_unmet k (needed_keys needs.now) ≡ Some key
+        → ¬ HasFailedAsked (needed_keys needs.now) (L.state lookup.old) (L.state lookup.new)
+        → IsUnknownType result key ⊎ (result ≡ Err CopyFault.NoMemory) }
+    ensures met { AreMet (known (L.state lookup.old)) (needed_keys needs.now)
+        → ¬ HasFailedAsked (needed_keys needs.now) (L.state lookup.old) (L.state lookup.new)
+        → IsErrAnd result IsLookupFault → ⊥ }
+    ensures unasked { needed_keys needs.now ≡ [] → lookup.new ≡ lookup.old }
+    ensures told { (L.state lookup.new).told ≡ (L.state lookup.old).told }
+    ensures faults { (L.state lookup.old).fault_count ≤ (L.state lookup.new).fault_count }
 {
-    let plain = plain_cells_of(alloc, types)?;
-    let oids = FoundOids::new(alloc);
-    let columns = Columns {
-        types,
-        plain: plain.as_slice(),
-        found: &oids,
-    };
-    let rows = copy_stream(alloc, &columns, source, sink, limits)?;
+    let oids = look_up_all(alloc, needs, lookup)?;
+    let rows = copy_typed(alloc, types, &oids, source, sink, limits)?;
     Ok(Copied { rows, oids })
 }
 
@@ -94,14 +137,17 @@ fn copy_typed<S: Source, K: Sink>(
 /// canonical stream of the same rows. Fields behind the last column are read and ignored. The types have to be of those whose
 /// cells are copied: scalar types that have a spelling in the table of `pgw_cell`, and these or null.
 ///
-/// The oids that it answers are those of types that are looked up by their names. None of these is copied yet, so there are no
-/// oids, and the lookup is not asked.
+/// What the schema needs of named types is looked up first, in order, before anything is read: its oids are answered with the
+/// number of rows. A schema without needs leaves the lookup as it is.
 ///
-/// Faults are met in the order of the stream's bytes. A row is refused for its fields only where it is whole, column by
-/// column. The sink gets the header once the stream's header was read, and each row once all its columns were found good.
+/// Faults are met in the order of the stream's bytes, behind those of the lookup. A row is refused for its fields only
+/// where it is whole, column by column. The sink gets the header once the stream's header was read, and each row once all
+/// its columns were found good.
 ///
 /// | fault | cause | what was written |
 /// |---|---|---|
+/// | `UnknownType` | the lookup does not know this key, which is the first such, or an oid that is needed of it is 0 | nothing, and nothing was read |
+/// | `LookupFault` | the lookup failed | nothing, and nothing was read |
 /// | `BadHeader` | the first 19 bytes begin no stream, or state, behind good flags, a negative length of the extension | nothing |
 /// | `BadFlags` | a bit of the high half of the flags is set | nothing |
 /// | `Truncated` | the source ended before it had 19 bytes, whatever these are, or inside the header's extension | nothing |
@@ -140,14 +186,31 @@ pub fn recopy<L: PgMetadataLookup, S: Source, K: Sink>(
 
     // What each fault says of the bytes that were taken, and of those that were written.
     ensures fault { (fault : _) → result ≡ Err fault → Took (S.state source.old) (S.state source.new)
-        (fault_says limits (column_shapes schema.now) (canonical_front (column_shapes schema.now)) fault
+        (copy_says limits (column_shapes schema.now) (canonical_front (column_shapes schema.now)) fault
         (Wrote (K.state sink.old) (K.state sink.new))) }
     ensures truncated { result ≡ Err CopyFault.Truncated → IsAtEnd (left (S.state source.new)) }
     ensures read_fault { result ≡ Err CopyFault.ReadFault → HasFailed (S.state source.old) (S.state source.new) }
     ensures write_fault { result ≡ Err CopyFault.WriteFault → HasFailed (K.state sink.old) (K.state sink.new) }
 
-    // A valid stream is copied, unless memory runs out or an object outside failed.
-    ensures complete { HasFront (left (S.state source.old)) (IsValidStream limits (column_shapes schema.now))
+    // The needs come first: the first that the lookup does not meet is the answer, with source and sink as they were.
+    ensures unknown_type { (key : _) → result ≡ Err (CopyFault.UnknownType key)
+        → IsFirstUnmet (known (L.state lookup.old)) (needs_of (column_shapes schema.now)) (owned_key key) }
+    ensures lookup_fault { result ≡ Err CopyFault.LookupFault
+        → HasFailedAsked (needs_of (column_shapes schema.now)) (L.state lookup.old) (L.state lookup.new) }
+    ensures untouched { IsErrAnd result IsLookupFault → (source.new ≡ source.old) × (sink.new ≡ sink.old) }
+    ensures unmet { (k : Known) (key : Key) → known (L.state lookup.old) ≡ Some k
+        → first_unmet k (needs_of (column_shapes schema.now)) ≡ Some key
+        → ¬ HasFailedAsked (needs_of (column_shapes schema.now)) (L.state lookup.old) (L.state lookup.new)
+        → IsUnknownType result key ⊎ (result ≡ Err CopyFault.NoMemory) }
+
+    ensures met { AreMet (known (L.state lookup.old)) (needs_of (column_shapes schema.now))
+        → ¬ HasFailedAsked (needs_of (column_shapes schema.now)) (L.state lookup.old) (L.state lookup.new)
+        → IsErrAnd result IsLookupFault → ⊥ }
+
+    // A valid stream is copied where each need is met, unless memory runs out or an object outside failed.
+    ensures complete { AreMet (known (L.state lookup.old)) (needs_of (column_shapes schema.now))
+        → ¬ HasFailedAsked (needs_of (column_shapes schema.now)) (L.state lookup.old) (L.state lookup.new)
+        → HasFront (left (S.state source.old)) (IsValidStream limits (column_shapes schema.now))
         → ¬ HasFailed (S.state source.old) (S.state source.new)
         → ¬ HasFailed (K.state sink.old) (K.state sink.new)
         → IsOkUnless result CopyFault.NoMemory }
@@ -159,9 +222,22 @@ pub fn recopy<L: PgMetadataLookup, S: Source, K: Sink>(
     ensures taken { Took (S.state source.old) (S.state source.new) (λ _. ⊤) }
     ensures gained { Gains (K.state sink.old) (K.state sink.new) }
 
-    // No type is looked up, since none yet that is copied is looked up by its name.
-    ensures oids { IfOk result (λ c. c.oids ≡ []) }
-    ensures unasked { lookup.new ≡ lookup.old }
+    // The oids are those that the lookup knows, one entry for each need, in order, and cover the needs. What it knows
+    // stays.
+    ensures oids { IfOk result (λ c.
+        AreFound (known (L.state lookup.old)) (needs_of (column_shapes schema.now)) c.oids) }
+    ensures covers { IfOk result (λ c. Covers c.oids (needs_of (column_shapes schema.now))) }
+    ensures unasked { needs_of (column_shapes schema.now) ≡ [] → lookup.new ≡ lookup.old }
+    ensures told { (L.state lookup.new).told ≡ (L.state lookup.old).told }
+    ensures lookup_faults { (L.state lookup.old).fault_count ≤ (L.state lookup.new).fault_count }
 {
-    copy_typed(alloc, schema.columns().as_slice(), source, sink, limits)
+    copy_found(
+        alloc,
+        schema.columns().as_slice(),
+        schema.needs().as_slice(),
+        lookup,
+        source,
+        sink,
+        limits,
+    )
 }

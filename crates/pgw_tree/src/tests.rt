@@ -5,8 +5,8 @@ ghost use Rattle.pgw_cell.specs.Built.{IsBuilt};
 ghost use Rattle.pgw_tree.specs.ColumnTypes.{AreBuilt};
 
 use crate::{CopyFault, Limits, recopy};
-use pgw_meta::{Dummy, PgType, Schema, TypeList};
-use pgw_wire::{Failed, MemorySink, MemorySource, NoMemory, QuietSource, Sink, Source};
+use pgw_meta::{CachedLookup, Dummy, MemoryCatalog, PgType, Schema, TypeKey, TypeList};
+use pgw_wire::{Break, Failed, MemorySink, MemorySource, NoMemory, QuietSource, Sink, Source};
 use std::alloc::Global;
 use std::test::Fail;
 
@@ -82,6 +82,19 @@ fn one_column(alloc: Global) -> Result<Schema, Fail>
     schema_of(alloc, columns)
 }
 
+/// A `citext`, which is named over a text.
+fn named_column(alloc: Global) -> Result<Schema, Fail>
+    ensures { IfOk result (λ schema. AreBuilt (column_shapes schema)) }
+{
+    let key = TypeKey::new(alloc, None, "citext")?;
+    let mut columns = TypeList::new(alloc);
+    add(
+        &mut columns,
+        PgType::Named(key, Box::new(alloc, PgType::Text)?),
+    )?;
+    schema_of(alloc, columns)
+}
+
 /// Copies, for the tests, and answers how many rows and how many oids: what they learn of it is what they look at.
 fn copy<S: Source, K: Sink>(
     alloc: Global,
@@ -108,6 +121,42 @@ fn stream_is_copied(rt: HostRuntime) -> Result<(), Fail> {
     let mut sink = MemorySink::new(alloc, Vec::new(alloc), Vec::new(alloc));
     let copied = copy(alloc, &schema, &mut source, &mut sink, limits_of(1, 4)?);
     assert!(rt; (copied, sink.gained()) == (Ok((1, 0)), STREAM));
+    Ok(())
+}
+
+// a row of a text of two bytes, and one of two bytes that are no text
+const LETTER: &[u8] = b"PGCOPY\n\xff\r\n\0\0\0\0\0\0\0\0\0\0\x01\0\0\0\x02\xc3\xa9\xff\xff";
+
+const NO_TEXT: &[u8] = b"PGCOPY\n\xff\r\n\0\0\0\0\0\0\0\0\0\0\x01\0\0\0\x02\xc3\x28\xff\xff";
+
+#[test]
+fn column_of_a_named_type_is_copied(rt: HostRuntime) -> Result<(), Fail> {
+    let alloc: Global = rt.alloc();
+    let schema = named_column(alloc)?;
+    let catalog = MemoryCatalog::new(alloc, Vec::new(alloc));
+    let mut lookup = CachedLookup::new(alloc, catalog);
+    let mut sink = MemorySink::new(alloc, Vec::new(alloc), Vec::new(alloc));
+    let mut source = QuietSource::new(LETTER.to_vec(alloc)?);
+    let limits = limits_of(1, 2)?;
+    let copied = recopy(alloc, &schema, &mut lookup, &mut source, &mut sink, limits);
+    assert!(rt; (copied.is_ok(), sink.gained()) == (true, LETTER));
+    assert!(rt; lookup.catalog().searches() == 0);
+    Ok(())
+}
+
+#[test]
+fn named_text_is_refused_as_its_part(rt: HostRuntime) -> Result<(), Fail> {
+    let alloc: Global = rt.alloc();
+    let schema = named_column(alloc)?;
+    let mut sink = MemorySink::new(alloc, Vec::new(alloc), Vec::new(alloc));
+    let mut source = QuietSource::new(NO_TEXT.to_vec(alloc)?);
+    let copied = copy(alloc, &schema, &mut source, &mut sink, limits_of(1, 2)?);
+    let fault = CopyFault::BadValue {
+        row: 0,
+        column: 0,
+        kind: Break::Utf8,
+    };
+    assert!(rt; (copied, sink.gained()) == (Err(fault), &LETTER[..19]));
     Ok(())
 }
 
