@@ -269,6 +269,22 @@ fn read_number(digits: &str, most: u64, before: Option<u64>) -> Result<Option<u6
     }
 }
 
+/// Whether a text is a name: 1 to 63 letters of ASCII, digits and `_`.
+fn is_name(text: &str) -> bool {
+    let is_part = |byte: u8| byte.is_ascii_alphanumeric() || byte == b'_';
+    (1..=63).contains(&text.len()) && text.bytes().all(is_part)
+}
+
+/// The schema and the name in `[schema.]name:OID:ARRAYOID`.
+fn read_oids(text: &str) -> Option<(&str, &str)> {
+    let (key, oids) = text.split_once(':')?;
+    let (oid, array_oid) = oids.split_once(':')?;
+    let (schema, name) = key.split_once('.').unwrap_or(("public", key));
+    let is_oid = |digits| read_number(digits, u32::MAX.into(), None).is_ok();
+    let holds = is_name(schema) && is_name(name) && is_oid(oid) && is_oid(array_oid);
+    holds.then_some((schema, name))
+}
+
 fn read_words(words: &[String]) -> Result<Plan> {
     match words.first().map(String::as_str) {
         None => return Err(Fault::Word(0, "missing command")),
@@ -276,6 +292,7 @@ fn read_words(words: &[String]) -> Result<Plan> {
         Some(_) => return Err(Fault::Word(0, "unknown command")),
     }
     let (mut rows, mut field) = (None, None);
+    let mut given = Vec::new();
     let mut columns = Vec::new();
     for (place, word) in words.iter().enumerate().skip(1) {
         let fault = |what| Fault::Word(place, what);
@@ -288,6 +305,14 @@ fn read_words(words: &[String]) -> Result<Plan> {
             Some(("rows", digits)) => rows = read_number(digits, u64::MAX, rows).map_err(fault)?,
             Some(("field", digits)) => {
                 field = read_number(digits, FIELD_MAX, field).map_err(fault)?
+            }
+            Some(("oid", text)) => {
+                let key = read_oids(text).ok_or(fault("bad oid word"))?;
+                if given.contains(&key) {
+                    return Err(fault("repeated option"));
+                }
+                given.try_reserve(1)?;
+                given.push(key);
             }
             _ => {
                 columns.try_reserve(1)?;

@@ -2,6 +2,10 @@ pub mod Kept
 pub mod Marked
 pub mod Reached
 pub mod Options
+pub mod OidWords
+pub mod Entries
+pub mod FirstFaults
+pub mod AskedFor
 pub mod Plans
 pub mod ReadingWords
 pub mod Sending

@@ -11,7 +11,8 @@ use Rattle.std.specs.Bool.{⊤}
 use Rattle.std.specs.Str.{all_ascii_digits}
 use Rattle.std.specs.Str.Parse.{ParsesUnsigned, digits_value}
 use Rattle.std.specs.Str.Pattern.{FindsTextPrefix, StripsPrefix}
-use Rattle.pgcopy.specs.Words.{behind, is_number}
+use Rattle.pgcopy.specs.Numbers.{is_number}
+use Rattle.pgcopy.specs.Words.{behind}
 
 -- what `strip_prefix` gives
 pub strips : (front word : List ℕ) (r : Option (Bor (List ℕ))) → MatchOption r (FindsTextPrefix front word None) (λ x. StripsPrefix (FindsTextPrefix front) word x.now) → option_map (λ x. x.now) r ≡ behind front word

@@ -8,10 +8,13 @@ use Rattle.std.specs.List.{filter_map, list_all}
 use Rattle.std.specs.Option.{is_some, is_none, option_or}
 use Rattle.std.specs.Result.{result_err}
 use Rattle.std.specs.Str.Parse.{digits_value}
+use Rattle.pgw_meta.specs.NamedOids.{known_of}
 use Rattle.pgw_meta.specs.Shape.{Shape}
+use Rattle.pgw_meta.specs.declared.found_oids.Found.{Found}
+use Rattle.pgcopy.specs.OidWords.{entry_key}
 use Rattle.pgcopy.specs.declared.words.WordFault.TheVariants.{NotYet}
 use Rattle.pgcopy.specs.declared.words.WordsRead.{WordsRead}
-use Rattle.pgcopy.specs.Words.{type_of, in_front, behind, is_option, number_of, digits_in, number_fault, option_fault, word_fault}
+use Rattle.pgcopy.specs.Words.{type_of, in_front, behind, is_option, entry_of, number_of, digits_in, number_fault, oid_fault, option_fault, word_fault}
 use Rattle.pgcopy.specs.WordsRead.{AreRead}
 use Rattle.pgcopy.proofs.Options.{behind_is}
 
@@ -62,6 +65,18 @@ all_added word before = list_all-append is_option before (word ∷ []) ∙ ap (�
 number_given : (most n : ℕ) (digits : List ℕ) (again : Bool) → Ok n ≡ number_of most digits again → (again ≡ false) × (n ≡ digits_value 10 digits) × (n ≤ most)
 number_given most n digits again h = search rules
 
+pub rows_no_oid : (word rest : List ℕ) → behind (codes "rows=") word ≡ Some rest → behind (codes "oid=") word ≡ None
+rows_no_oid word rest is = ap (behind (codes "oid=")) (behind_is (codes "rows=") word rest is) ∙ none rest
+  where
+    none : (rest : List ℕ) → behind (codes "oid=") (codes "rows=" ++ rest) ≡ None
+    none rest = refl
+
+pub field_no_oid : (word rest : List ℕ) → behind (codes "field=") word ≡ Some rest → behind (codes "oid=") word ≡ None
+field_no_oid word rest is = ap (behind (codes "oid=")) (behind_is (codes "field=") word rest is) ∙ none rest
+  where
+    none : (rest : List ℕ) → behind (codes "oid=") (codes "field=" ++ rest) ≡ None
+    none rest = refl
+
 rows_is_no_field : (rest : List ℕ) → behind (codes "field=") (codes "rows=" ++ rest) ≡ None
 rows_is_no_field rest = refl
 
@@ -93,6 +108,17 @@ type_is_plain word t e = (
     by : (front : List ℕ) → ((rest : List ℕ) → type_of (front ++ rest) ≡ None) → (r : Option (List ℕ)) → behind front word ≡ r → r ≡ None
     by front none None is = refl
     by front none (Some rest) is = absurd (no (sym (none rest) ∙ sym (ap type_of (behind_is front word rest is)) ∙ e))
+
+pub type_is_no_option : (word : List ℕ) (t : Shape) → type_of word ≡ Some t → is_option word ≡ false
+type_is_no_option word t is = let plain = type_is_plain word t is in rw (plain.0, plain.1, plain.2) refl
+
+-- an option is no type
+pub option_is_no_type : (word : List ℕ) → is_option word ≡ true → type_of word ≡ None
+option_is_no_type word h = by (type_of word) refl
+  where
+    by : (r : Option Shape) → type_of word ≡ r → r ≡ None
+    by None is = refl
+    by (Some t) is = let both : true ≡ false = sym h ∙ type_is_no_option word t is in absurd (cc)
 
 none_if : {A : Type 0} → (r : Option A) → is_some r ≡ false → r ≡ None
 none_if None h = refl
@@ -164,6 +190,23 @@ field_seen seen n word digits before h all option is given =
       },
     )
 
+-- an option of an entry whose key no word before it has
+pub oid_new : (before : List (List ℕ)) (word : List ℕ) (entry : Found) → entry_of word ≡ Some entry → is_some (known_of (filter_map entry_of before) (entry_key entry)) ≡ false → oid_fault before word ≡ None
+oid_new before word entry is new = rw is (rw new refl)
+
+pub oid_seen : (seen : WordsRead) (word : List ℕ) (before : List (List ℕ)) → AreRead seen before → list_all is_option before ≡ true → is_option word ≡ true → behind (codes "rows=") word ≡ None → behind (codes "field=") word ≡ None → oid_fault before word ≡ None → (option_fault before word ≡ None) × AreRead seen (before ++ word ∷ [])
+oid_seen seen word before h all option no_rows no_field good =
+    let b = begun_with seen word before h all option (option_is_no_type word option) in (
+      rw (no_rows, no_field) good,
+      record {
+        rows = h.rows ∙ sym (ap (option_map (digits_value 10)) (digits_kept (codes "rows=") word before no_rows));
+        field = h.field ∙ sym (ap (option_map (digits_value 10)) (digits_kept (codes "field=") word before no_field));
+        field_fits = h.field_fits;
+        types = b.0;
+        begun = b.1;
+      },
+    )
+
 pub and_false : (b : Bool) → (b && false) ≡ false
 and_false true = refl
 and_false false = refl
@@ -171,7 +214,7 @@ and_false false = refl
 pub type_seen : (seen : WordsRead) (t : Shape) (word : List ℕ) (before : List (List ℕ)) → AreRead seen before → type_of word ≡ Some t → (word_fault before word ≡ None) × AreRead (record seen { types = seen.types + 1 }) (before ++ word ∷ [])
 type_seen seen t word before h is =
     let plain = type_is_plain word t is in
-    let option : is_option word ≡ false = rw (plain.0, plain.1, plain.2) refl in
+    let option = type_is_no_option word t is in
     let mixed : (list_all is_option before && is_option word) ≡ false = ap (λ b. list_all is_option before && b) option ∙ and_false _ in (
       ap (λ b. if b then option_fault before word else if is_none (type_of word) then Some NotYet else None) mixed ∙ rw is refl,
       record {

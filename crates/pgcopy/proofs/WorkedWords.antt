@@ -1,21 +1,68 @@
 -- What some command lines ask for, computed from the definitions.
-use Rattle.std.proofs.Common.{◌≡◌, ℕ, List, [], ◌∷◌, ◌++◌, codes, Some, None, Result, Ok, Err, refl, ap, arith}
+use Rattle.std.proofs.Common.{◌≡◌, ℕ, List, [], ◌∷◌, ◌++◌, codes, Some, None, option_map, Result, Ok, Err, refl, ap, arith, inl}
 use Rattle.pgw_meta.specs.Shape.{scalar, int4, text, macaddr, macaddr8, nullable}
+use Rattle.pgw_meta.specs.declared.found_oids.Found.{Found}
 use Rattle.pgw_tree.specs.Limits.{default_limits}
 use Rattle.pgcopy.specs.declared.words.WordFault.{WordFault}
-use Rattle.pgcopy.specs.declared.words.WordFault.TheVariants.{NoCommand, UnknownCommand, BadNumber, Repeated, NoTypes, NotYet}
-use Rattle.pgcopy.specs.Words.{type_of, PlanData, IsPlan, HasNoPlan, PlacedFault, IsFirstFault, word_fault, fault_between, plan_of_texts}
-use Rattle.pgcopy.proofs.Plans.{plan_is_found, fault_no_plan, found_is_first}
+use Rattle.pgcopy.specs.declared.words.WordFault.TheVariants.{NoCommand, UnknownCommand, BadNumber, Repeated, BadOid, NoTypes, NotYet}
+use Rattle.pgcopy.specs.OidWords.{SpellsEntry, entry_in}
+use Rattle.pgcopy.proofs.Entries.{none_twice}
+use Rattle.pgcopy.specs.Words.{named, type_of, PlanData, IsPlan, HasNoPlan, PlacedFault, IsFirstFault, word_fault, fault_between, plan_of_texts}
+use Rattle.pgcopy.proofs.Plans.{found_is_plan, plan_is_found, fault_no_plan, found_is_first}
 
-named : (type_of (codes "int4") ≡ Some (scalar int4)) × (type_of (codes "text?") ≡ Some (nullable (scalar text)))
+types_named : (type_of (codes "int4") ≡ Some (scalar int4)) × (type_of (codes "text?") ≡ Some (nullable (scalar text)))
     × (type_of (codes "macaddr8") ≡ Some (scalar macaddr8)) × (type_of (codes "macaddr?") ≡ Some (nullable (scalar macaddr)))
-named = (refl, refl, refl, refl)
+types_named = (refl, refl, refl, refl)
 
 named_nothing : (type_of [] ≡ None) × (type_of (codes "?") ≡ None) × (type_of (codes "int4??") ≡ None) × (type_of (codes "?int4") ≡ None) × (type_of (codes "int4 ") ≡ None)
 named_nothing = (refl, refl, refl, refl, refl)
 
+-- the entry of a name in a schema
+abbrev entry : List ℕ → List ℕ → ℕ → ℕ → Found
+entry schema name oid array_oid = record { key = record { schema = Some schema; name = name }; oid = oid; array_oid = array_oid }
+
+-- 63 letters, the longest name
+abbrev longest : List ℕ
+longest = codes "abcdefghijklmnopqrstuvwxyzabcdefghijklmnopqrstuvwxyzabcdefghijk"
+
+spelled : (entry_in (codes "citext:16400:16405") ≡ Some (entry (codes "public") (codes "citext") 16400 16405))
+    × (entry_in (codes "my_Schema1.t:0:4294967295") ≡ Some (entry (codes "my_Schema1") (codes "t") 0 4294967295))
+    × (entry_in (codes "7:00:00000000000012") ≡ Some (entry (codes "public") (codes "7") 0 12))
+    × (option_map (λ (e : Found). e.key.name) (entry_in (longest ++ codes ":1:2")) ≡ Some longest)
+spelled = (refl, refl, refl, refl)
+
+spelled_by_hand : SpellsEntry (codes "public.t:01:2") (entry (codes "public") (codes "t") 1 2)
+spelled_by_hand = record {
+  text = codes "public.t";
+  oid = codes "01";
+  array_oid = codes "2";
+  is = refl;
+  schema = codes "public";
+  in_schema = refl;
+  stands_for = inl refl;
+  schema_is_name = refl;
+  name_is_name = refl;
+  oid_is = refl;
+  array_oid_is = refl;
+}
+
+not_names : (entry_in (codes ":1:2") ≡ None) × (entry_in (codes ".t:1:2") ≡ None) × (entry_in (codes "s.:1:2") ≡ None) × (entry_in (codes "a.b.t:1:2") ≡ None)
+    × (entry_in (codes "t-t:1:2") ≡ None) × (entry_in (codes " t:1:2") ≡ None) × (entry_in (97 ∷ longest ++ codes ":1:2") ≡ None) × (entry_in (195 ∷ 164 ∷ codes ":1:2") ≡ None)
+not_names = (refl, refl, refl, refl, refl, refl, refl, refl)
+
+not_oids : (entry_in (codes "t:1") ≡ None) × (entry_in (codes "t") ≡ None) × (entry_in [] ≡ None) × (entry_in (codes "t:1:2:3") ≡ None) × (entry_in (codes "t::2") ≡ None)
+    × (entry_in (codes "t:1:") ≡ None) × (entry_in (codes "t:+1:2") ≡ None) × (entry_in (codes "t:1:-2") ≡ None) × (entry_in (codes "t:1: 2") ≡ None)
+    × (entry_in (codes "t:4294967296:2") ≡ None) × (entry_in (codes "t:1:4294967296") ≡ None)
+not_oids = (refl, refl, refl, refl, refl, refl, refl, refl, refl, refl, refl)
+
+-- what the entry of `public.t` tells: of `t` without a schema, and of no other schema
+told : (named (record { limits = default_limits; entries = entry (codes "public") (codes "t") 1 2 ∷ []; columns = [] }) (record { schema = None; name = codes "t" }) ≡ Some (record { oid = 1; array_oid = 2 }))
+    × (named (record { limits = default_limits; entries = entry (codes "public") (codes "t") 1 2 ∷ []; columns = [] }) (record { schema = Some (codes "public"); name = codes "t" }) ≡ Some (record { oid = 1; array_oid = 2 }))
+    × (named (record { limits = default_limits; entries = entry (codes "my") (codes "t") 1 2 ∷ []; columns = [] }) (record { schema = None; name = codes "t" }) ≡ None)
+told = (refl, refl, refl)
+
 -- words without options
-types_alone : IsPlan (codes "copy" ∷ codes "int4" ∷ codes "text?" ∷ []) (record { limits = default_limits; columns = scalar int4 ∷ nullable (scalar text) ∷ [] })
+types_alone : IsPlan (codes "copy" ∷ codes "int4" ∷ codes "text?" ∷ []) (record { limits = default_limits; entries = []; columns = scalar int4 ∷ nullable (scalar text) ∷ [] })
 types_alone = record {
   options = [];
   types = codes "int4" ∷ codes "text?" ∷ [];
@@ -23,12 +70,14 @@ types_alone = record {
   known = refl;
   rows = refl;
   field = refl;
+  entries = tt;
+  once = none_twice;
   columns = refl;
   some = omega arith;
   few = omega arith;
 }
 
-both_limits : IsPlan (codes "copy" ∷ codes "field=02" ∷ codes "rows=15" ∷ codes "text" ∷ []) (record { limits = record { rows_max = 15; field_max = 2 }; columns = scalar text ∷ [] })
+both_limits : IsPlan (codes "copy" ∷ codes "field=02" ∷ codes "rows=15" ∷ codes "text" ∷ []) (record { limits = record { rows_max = 15; field_max = 2 }; entries = []; columns = scalar text ∷ [] })
 both_limits = record {
   options = codes "field=02" ∷ codes "rows=15" ∷ [];
   types = codes "text" ∷ [];
@@ -36,12 +85,18 @@ both_limits = record {
   known = refl;
   rows = (refl, refl);
   field = (refl, refl);
+  entries = tt;
+  once = none_twice;
   columns = refl;
   some = omega arith;
   few = omega arith;
 }
 
-most_rows : plan_of_texts (codes "copy" ∷ codes "rows=18446744073709551615" ∷ codes "int4" ∷ []) ≡ Ok (record { limits = default_limits; columns = scalar int4 ∷ [] })
+with_entries : IsPlan (codes "copy" ∷ codes "oid=t:1:2" ∷ codes "rows=15" ∷ codes "oid=my.t:3:4" ∷ codes "text" ∷ [])
+    (record { limits = record { rows_max = 15; field_max = 2147483647 }; entries = entry (codes "public") (codes "t") 1 2 ∷ entry (codes "my") (codes "t") 3 4 ∷ []; columns = scalar text ∷ [] })
+with_entries = found_is_plan _ _ refl
+
+most_rows : plan_of_texts (codes "copy" ∷ codes "rows=18446744073709551615" ∷ codes "int4" ∷ []) ≡ Ok (record { limits = default_limits; entries = []; columns = scalar int4 ∷ [] })
 most_rows = refl
 
 no_words : HasNoPlan []
@@ -51,7 +106,7 @@ other_command : HasNoPlan (codes "cpy" ∷ codes "int4" ∷ [])
 other_command plan p = let no : codes "cpy" ∷ codes "int4" ∷ [] ≡ codes "copy" ∷ (p.options ++ p.types) = p.is in cc
 
 -- the words state another limit
-other_limit : IsPlan (codes "copy" ∷ codes "rows=15" ∷ codes "text" ∷ []) (record { limits = record { rows_max = 16; field_max = 2147483647 }; columns = scalar text ∷ [] }) → ⊥
+other_limit : IsPlan (codes "copy" ∷ codes "rows=15" ∷ codes "text" ∷ []) (record { limits = record { rows_max = 16; field_max = 2147483647 }; entries = []; columns = scalar text ∷ [] }) → ⊥
 other_limit p = let no : 15 ≡ 16 = ap rows_of (plan_is_found _ _ p) in omega (arith, no)
   where
     rows_of : Result PlanData PlacedFault → ℕ
@@ -108,8 +163,21 @@ behind_a_type = wrong _ 2 NotYet refl
 marked_twice : Wrong (codes "copy" ∷ codes "int4??" ∷ []) 1 NotYet
 marked_twice = wrong _ 1 NotYet refl
 
-named_oid : Wrong (codes "copy" ∷ codes "oid=a:1:2" ∷ codes "int4" ∷ []) 1 NotYet
-named_oid = wrong _ 1 NotYet refl
+bad_oid : Wrong (codes "copy" ∷ codes "oid=t:1" ∷ codes "int4" ∷ []) 1 BadOid
+bad_oid = wrong _ 1 BadOid refl
+
+oid_behind_a_type : Wrong (codes "copy" ∷ codes "int4" ∷ codes "oid=t:1:2" ∷ []) 2 NotYet
+oid_behind_a_type = wrong _ 2 NotYet refl
+
+oids_again : Wrong (codes "copy" ∷ codes "oid=t:1:2" ∷ codes "rows=1" ∷ codes "oid=public.t:3:4" ∷ codes "int4" ∷ []) 3 Repeated
+oids_again = wrong _ 3 Repeated refl
+
+oid_form_first : Wrong (codes "copy" ∷ codes "oid=t:1:2" ∷ codes "oid=t:x:2" ∷ codes "int4" ∷ []) 2 BadOid
+oid_form_first = wrong _ 2 BadOid refl
+
+other_schema : plan_of_texts (codes "copy" ∷ codes "oid=t:1:2" ∷ codes "oid=my.t:3:4" ∷ codes "int4" ∷ [])
+    ≡ Ok (record { limits = default_limits; entries = entry (codes "public") (codes "t") 1 2 ∷ entry (codes "my") (codes "t") 3 4 ∷ []; columns = scalar int4 ∷ [] })
+other_schema = refl
 
 options_alone : Wrong (codes "copy" ∷ codes "rows=1" ∷ []) 2 NoTypes
 options_alone = wrong _ 2 NoTypes refl

@@ -1,15 +1,22 @@
--- What the words of a command line ask for: the limits, and the types of the columns to copy, or the first thing that
--- is wrong.
-use Rattle.std.specs.Prelude.{ℕ, ◌≤◌, ◌≡◌, ◌==◌, ◌&&◌, ◌||◌, List, [], ◌∷◌, ◌++◌, length, drop, map, String, string_bytes, codes, Option, None, Some, is_none, is_some, option_map, Result, Ok, Err, Bool, true, false, nat_lt, nat_le, if◌then◌else◌}
-use Rattle.std.specs.List.{filter_map, starts_with, list_all}
+-- What the words of a command line ask for: the limits, the oids that they give types, and the types of the columns to
+-- copy, or the first thing that is wrong.
+use Rattle.std.specs.Prelude.{ℕ, ◌≤◌, ◌≡◌, ◌==◌, ◌&&◌, ◌||◌, List, [], ◌∷◌, ◌++◌, length, drop, map, String, string_bytes, codes, Option, None, Some, is_none, is_some, option_map, Result, Ok, Err, Bool, true, false, nat_lt, if◌then◌else◌}
+use Rattle.std.specs.List.{filter_map, starts_with, list_all, AllZip, IsDistinct}
 use Rattle.std.specs.Option.{option_or, option_and_then, option_map_or}
 use Rattle.std.specs.Result.{result_err}
-use Rattle.std.specs.Str.{bytes_eq, all_ascii_digits}
+use Rattle.std.specs.Str.{bytes_eq}
 use Rattle.std.specs.Str.Parse.{digits_value}
 use Rattle.pgw_meta.specs.Shape.{Shape, scalar, nullable, bool, char, int2, int4, int8, oid, text, bytea, uuid, money, pg_lsn, macaddr, macaddr8, inet, cidr, date, time, timestamp, timestamptz, interval, numeric}
+use Rattle.pgw_meta.specs.Known.{Known}
+use Rattle.pgw_meta.specs.Needs.{is_same_key}
+use Rattle.pgw_meta.specs.NamedOids.{known_of}
+use Rattle.pgw_meta.specs.Catalog.{in_schema}
+use Rattle.pgw_meta.specs.declared.found_oids.Found.{Found}
 use Rattle.pgw_tree.specs.Limits.{Limits, default_limits}
+use Rattle.pgcopy.specs.Numbers.{is_number}
+use Rattle.pgcopy.specs.OidWords.{SpellsEntry, entry_in, schema_of, entry_key}
 use Rattle.pgcopy.specs.declared.words.WordFault.{WordFault}
-use Rattle.pgcopy.specs.declared.words.WordFault.TheVariants.{NoCommand, UnknownCommand, BadNumber, Repeated, NoTypes, Schema, NotYet}
+use Rattle.pgcopy.specs.declared.words.WordFault.TheVariants.{NoCommand, UnknownCommand, BadNumber, Repeated, BadOid, NoTypes, Schema, NotYet}
 
 -- the types that have a name
 abbrev pub type_names : List (List ℕ × Shape)
@@ -44,13 +51,10 @@ type_of word =
 abbrev pub behind : List ℕ → List ℕ → Option (List ℕ)
 behind front word = if starts_with ◌==◌ word front then Some (drop (length front) word) else None
 
--- whether a word is an option that sets a limit, where no type stands before it
-abbrev pub is_limit : List ℕ → Bool
-is_limit word = is_some (behind (codes "rows=") word) || is_some (behind (codes "field=") word)
-
--- one or more decimal digits, of a number of at most `most`
-abbrev pub is_number : ℕ → List ℕ → Bool
-is_number most digits = nat_lt 0 (length digits) && all_ascii_digits digits && nat_le (digits_value 10 digits) most
+-- whether a word is an option, where no type stands before it
+abbrev pub is_option : List ℕ → Bool
+is_option word =
+    is_some (behind (codes "rows=") word) || is_some (behind (codes "field=") word) || is_some (behind (codes "oid=") word)
 
 -- The limit that an option sets, by the digits of each word that is this option: without such a word it is `most`, and
 -- with one the number of its digits. More do not stand in a plan.
@@ -63,19 +67,23 @@ IsSet most (digits ∷ again ∷ more) limit = ⊥
 abbrev pub texts : {A : Type 0} → List (String A) → List (List ℕ)
 texts words = map string_bytes words
 
--- How much to copy at most, and the types of the columns.
+-- How much to copy at most, the oids that types are given, and the types of the columns.
 pub record PlanData : Type 0 where
   pub limits : Limits
+  pub entries : List Found
   pub columns : List Shape
 
--- Words ask for this: the command `copy`, then options, each at most once, and then the types of 1 to 32767 columns.
+-- Words ask for this: the command `copy`, then options, each at most once, and then the types of 1 to 32767 columns. Each
+-- option `oid=` is one entry, in their order, and no two have the same schema and name.
 pub record IsPlan (words : List (List ℕ)) (plan : PlanData) : Type 0 where
   pub options : List (List ℕ)
   pub types : List (List ℕ)
   pub is : words ≡ codes "copy" ∷ (options ++ types)
-  pub known : list_all is_limit options ≡ true
+  pub known : list_all is_option options ≡ true
   pub rows : IsSet default_limits.rows_max (filter_map (behind (codes "rows=")) options) plan.limits.rows_max
   pub field : IsSet default_limits.field_max (filter_map (behind (codes "field=")) options) plan.limits.field_max
+  pub entries : AllZip SpellsEntry (filter_map (behind (codes "oid=")) options) plan.entries
+  pub once : IsDistinct is_same_key (map entry_key plan.entries)
   pub columns : map type_of types ≡ map Some plan.columns
   pub some : 1 ≤ length plan.columns
   pub few : length plan.columns ≤ 32767
@@ -84,9 +92,13 @@ pub record IsPlan (words : List (List ℕ)) (plan : PlanData) : Type 0 where
 abbrev pub HasNoPlan : List (List ℕ) → Type 0
 HasNoPlan words = (plan : PlanData) → IsPlan words plan → ⊥
 
--- whether a word is an option, where no type stands before it
-abbrev pub is_option : List ℕ → Bool
-is_option word = is_limit word || is_some (behind (codes "oid=") word)
+-- What the entries of a plan tell of a key: the oids of its name in its schema, which is `public` where it has none.
+abbrev pub named : PlanData → Known
+named plan key = known_of plan.entries (in_schema (schema_of key) key.name)
+
+-- the entry of a word, where it is an option `oid=` and spells one
+abbrev pub entry_of : List ℕ → Option Found
+entry_of word = option_and_then entry_in (behind (codes "oid=") word)
 
 -- the number of an option, or what is wrong with it: its digits, or that the option stands before it already
 abbrev pub number_of : ℕ → List ℕ → Bool → Result ℕ WordFault
@@ -104,13 +116,20 @@ number_fault front most before word =
     option_and_then (λ digits. result_err (number_of most digits (is_some (digits_in front before))))
     (behind front word)
 
+-- what is wrong with an option `oid=` behind these words: it spells no entry, or one of these has its schema and name
+abbrev pub oid_fault : List (List ℕ) → List ℕ → Option WordFault
+oid_fault before word =
+    option_map_or
+    (λ (entry : Found). if is_some (known_of (filter_map entry_of before) (entry_key entry)) then Some Repeated else None)
+    (entry_of word) (Some BadOid)
+
 -- what is wrong with an option behind these words
 abbrev pub option_fault : List (List ℕ) → List ℕ → Option WordFault
 option_fault before word =
     if is_some (behind (codes "rows=") word) then number_fault (codes "rows=") default_limits.rows_max before word
     else if is_some (behind (codes "field=") word)
     then number_fault (codes "field=") default_limits.field_max before word
-    else Some NotYet
+    else oid_fault before word
 
 -- What is wrong with a word behind these words, the command not among them. It is an option or a type.
 abbrev pub word_fault : List (List ℕ) → List ℕ → Option WordFault
@@ -168,7 +187,11 @@ limits_in words = record {
 abbrev pub plan_of_texts : List (List ℕ) → Result PlanData PlacedFault
 plan_of_texts words =
     option_map_or Err (first_fault [] words)
-    (Ok (record { limits = limits_in words; columns = filter_map type_of words }))
+    (Ok (record {
+      limits = limits_in words;
+      entries = filter_map entry_of words;
+      columns = filter_map type_of words;
+    }))
 
 -- The plan of words, or their first fault. `IsPlan` and `IsFirstFault` say which these are, and `read_words` that they
 -- agree.

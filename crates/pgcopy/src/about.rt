@@ -3,7 +3,7 @@ ghost use Rattle.pgcopy.specs.Words.{texts, HasNoPlan, asks_about};
 
 /// How the program is used.
 const HELP: &str = "\
-usage: pgcopy copy [rows=N] [field=N] TYPE...
+usage: pgcopy copy [OPTION...] TYPE...
        pgcopy --help | -h | --version
 
 Reads a stream from standard input as PostgreSQL sends it for
@@ -34,9 +34,12 @@ null:
   interval     a span of time, as microseconds, days and months
   numeric      a number of any precision, by its digits, or not a number
 
-options, in front of the types, each at most once:
+options, in front of the types; rows= and field= at most once:
   rows=N   refuse a stream of more than N rows, N up to 18446744073709551615
   field=N  refuse a value of more than N bytes, N up to 2147483647
+  oid=[SCHEMA.]NAME:OID:ARRAYOID
+           the oids of a type and of its arrays, up to 4294967295, once for each
+           schema and name; without SCHEMA it is public. No TYPE needs it yet
 
 exit status:
   0  the whole stream was copied

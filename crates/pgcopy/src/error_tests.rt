@@ -71,11 +71,12 @@ const COPIED: [(CopyFault, &str); 12] = [
     (CopyFault::WriteFault, "write fault"),
 ];
 
-const WORDS: [(WordFault, &str); 7] = [
+const WORDS: [(WordFault, &str); 8] = [
     (WordFault::NoCommand, "missing command"),
     (WordFault::UnknownCommand, "unknown command"),
     (WordFault::BadNumber, "bad number"),
     (WordFault::Repeated, "repeated option"),
+    (WordFault::BadOid, "bad oid word"),
     (WordFault::NoTypes, "missing type"),
     (WordFault::Schema(2), "schema fault 2"),
     (WordFault::NotYet, "not supported yet"),

@@ -9,6 +9,8 @@ mod edge_tests;
 #[cfg(test)]
 mod error_tests;
 mod lent;
+mod numbers;
+mod oid_words;
 mod report;
 mod run;
 #[cfg(test)]

@@ -108,6 +108,7 @@ fn fault_text<'a>(fault: WordFault, number: &'a mut Buffer) -> (&'static [u8], &
         WordFault::UnknownCommand => (b"unknown command", b""),
         WordFault::BadNumber => (b"bad number", b""),
         WordFault::Repeated => (b"repeated option", b""),
+        WordFault::BadOid => (b"bad oid word", b""),
         WordFault::NoTypes => (b"missing type", b""),
         WordFault::Schema(fault) => (b"schema fault ", number.format(fault).as_bytes()),
         WordFault::NotYet => (b"not supported yet", b""),

@@ -62,7 +62,7 @@ fn execute<S: Source, K: Sink>(
 ///
 /// The command `copy`, options and column types copy a stream of rows of these columns, as PostgreSQL's
 /// `COPY .. (FORMAT binary)` has it, from the source to the sink. `rows=` limits how many rows the stream has, and
-/// `field=` how many bytes the canonical form of a field has.
+/// `field=` how many bytes the canonical form of a field has; `oid=` gives the oids of a type, which no column needs yet.
 ///
 /// | status | cause | line |
 /// |---|---|---|

@@ -173,7 +173,7 @@ const RUNS: [Run<'static>; 34] = [
         taken: 36,
     },
     Run {
-        words: &["copy", "int4"],
+        words: &["copy", "oid=citext:16400:16405", "int4"],
         input: SURPLUS,
         read_fail: NEVER,
         write_fail: NEVER,

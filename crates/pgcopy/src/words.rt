@@ -1,15 +1,20 @@
-ghost use Rattle.std.specs.Prelude.{◌≡◌, ◌↔◌, if◌then◌else◌, ℕ, ◌≤◌, ◌<◌, List, [], ◌∷◌, ◌++◌, length, map, string_bytes, codes, Option, Some, None, option_map, Ok, Err, true, IfOk, IfErr, IfSome, IsOk, MatchResult};
+ghost use Rattle.std.specs.Prelude.{◌≡◌, ◌↔◌, if◌then◌else◌, ℕ, ◌≤◌, ◌<◌, List, [], ◌∷◌, ◌++◌, length, map, string_bytes, codes, Option, Some, None, is_some, option_map, Ok, Err, true, IfOk, IfErr, IfSome, IsOk, MatchResult};
 ghost use Rattle.std.specs.List.{filter_map, list_all};
 ghost use Rattle.std.specs.Option.{unwrap_or};
 ghost use Rattle.pgw_meta.specs.Shape.{nullable};
+ghost use Rattle.pgw_meta.specs.NamedOids.{known_of};
+ghost use Rattle.pgw_meta.specs.Catalog.{in_schema};
 ghost use Rattle.pgw_meta.specs.Types.{shape, column_shapes, types_of};
 ghost use Rattle.pgw_meta.specs.Schema.{IsValidSchema};
 ghost use Rattle.pgw_tree.specs.ColumnTypes.{AreBuilt};
 ghost use Rattle.pgw_tree.specs.Limits.{default_limits};
-ghost use Rattle.pgcopy.specs.Words.{type_names, look_up, type_of, behind, is_option, number_of, option_fault, word_fault, first_fault, PlanData, IsPlan, HasNoPlan, PlacedFault, IsFirstFault, plan_of};
+ghost use Rattle.pgcopy.specs.OidWords.{given_entry};
+ghost use Rattle.pgcopy.specs.Words.{type_names, look_up, type_of, behind, is_option, entry_of, number_of, option_fault, word_fault, first_fault, PlanData, IsPlan, HasNoPlan, PlacedFault, IsFirstFault, plan_of, texts};
 ghost use Rattle.pgcopy.specs.WordsRead.{AreRead};
 
-use pgw_meta::{PgType, Schema, SchemaError, TypeList};
+use crate::numbers::read_number;
+use crate::oid_words::{GivenOids, given_oids};
+use pgw_meta::{Found, FoundOids, PgType, Schema, SchemaError, TypeKey, TypeList};
 use pgw_tree::{FIELD_MAX, Limits};
 use pgw_wire::NoMemory;
 use std::alloc::Global;
@@ -33,16 +38,20 @@ pub enum WordFault {
     /// The digits of an option are no number that it may have.
     #[error("bad number")]
     BadNumber,
-    /// The option stands before it already.
+    /// The option stands before it already; of `oid=` one of this schema and name does.
     #[error("repeated option")]
     Repeated,
+    /// What stands behind `oid=` is not `[schema.]name:OID:ARRAYOID`, with names of 1 to 63 letters of ASCII, digits and
+    /// `_`, and numbers of at most 4294967295.
+    #[error("bad oid word")]
+    BadOid,
     /// The command has no column types.
     #[error("missing type")]
     NoTypes,
     /// The types make no schema, by the number of the fault. 2: there are more than 32767 columns.
     #[error("schema fault {0}")]
     Schema(u8),
-    /// The word is none that is read yet: it names no such type, or is an option `oid=`.
+    /// The word is none that is read yet: it names no such type.
     #[error("not supported yet")]
     NotYet,
 }
@@ -73,6 +82,8 @@ impl From<NoMemory> for WordError {
 pub struct Plan {
     /// How much is copied at most.
     pub limits: Limits,
+    /// The oids that the words give types, in their order, each key with its schema.
+    pub entries: FoundOids,
     /// The types of the columns.
     pub schema: Schema,
 }
@@ -151,31 +162,44 @@ fn is_option(word: &str) -> bool
         || behind(word, "oid=").is_some()
 }
 
+/// The oids that an option `oid=` gives a type.
+fn oids_of(word: &str) -> Option<GivenOids<'_>>
+    ensures { option_map given_entry result ≡ entry_of word.now }
+{
+    given_oids(behind(word, "oid=")?)
+}
+
+/// Whether one of the words gives oids to the type of this name in this schema.
+fn is_given(words: &[String], schema: &str, name: &str) -> bool
+    ensures { result ≡ is_some (known_of (filter_map entry_of (map string_bytes words.now)) (in_schema schema.now name.now)) }
+{
+    for word in words {
+        if let Some(given) = oids_of(word.as_str()) {
+            if given.schema == schema && given.name == name {
+                return true;
+            }
+        }
+    }
+    false
+}
+
 /// The number of an option, of at most `most`. `again` says that the option stands before it already.
 fn number_of(digits: &str, most: u64, again: bool) -> Result<u64, WordFault>
     ensures { result ≡ number_of most digits.now again }
 {
-    if digits.starts_with('+') {
-        return Err(WordFault::BadNumber);
-    }
-    match digits.parse::<u64>() {
-        Ok(number) if number <= most => {
-            if again {
-                Err(WordFault::Repeated)
-            } else {
-                Ok(number)
-            }
-        }
-        _ => Err(WordFault::BadNumber),
+    match read_number(digits, most) {
+        None => Err(WordFault::BadNumber),
+        Some(_) if again => Err(WordFault::Repeated),
+        Some(number) => Ok(number),
     }
 }
 
-/// Reads an option behind others.
-fn read_option(seen: WordsRead, word: &str) -> Result<WordsRead, WordFault>
-    ensures { (before : List (List ℕ)) → AreRead seen before
-        → list_all is_option before ≡ true → is_option word.now ≡ true
-        → MatchResult result (λ next. (option_fault before word.now ≡ None) × AreRead next (before ++ (word.now ∷ [])))
-        (λ fault. option_fault before word.now ≡ Some fault) }
+/// Reads an option behind others, which stand before it.
+fn read_option(seen: WordsRead, before: &[String], word: &str) -> Result<WordsRead, WordFault>
+    ensures { AreRead seen (texts before.now) → list_all is_option (texts before.now) ≡ true → is_option word.now ≡ true
+        → MatchResult result
+        (λ next. (option_fault (texts before.now) word.now ≡ None) × AreRead next (texts before.now ++ (word.now ∷ [])))
+        (λ fault. option_fault (texts before.now) word.now ≡ Some fault) }
 {
     if let Some(digits) = behind(word, "rows=") {
         let rows = number_of(digits, ROWS_MAX, seen.rows.is_some())?;
@@ -190,19 +214,24 @@ fn read_option(seen: WordsRead, word: &str) -> Result<WordsRead, WordFault>
             ..seen
         })
     } else {
-        Err(WordFault::NotYet)
+        match oids_of(word) {
+            None => Err(WordFault::BadOid),
+            Some(given) if is_given(before, given.schema, given.name) => Err(WordFault::Repeated),
+            Some(_) => Ok(seen),
+        }
     }
 }
 
-/// Reads a word behind others.
-fn read_word(seen: WordsRead, word: &str) -> Result<WordsRead, WordFault>
+/// Reads a word behind others, which stand before it.
+fn read_word(seen: WordsRead, before: &[String], word: &str) -> Result<WordsRead, WordFault>
     requires { seen.types < 18446744073709551615 }
-    ensures { (before : List (List ℕ)) → AreRead seen before
-        → MatchResult result (λ next. (word_fault before word.now ≡ None) × AreRead next (before ++ (word.now ∷ [])))
-        (λ fault. word_fault before word.now ≡ Some fault) }
+    ensures { AreRead seen (texts before.now)
+        → MatchResult result
+        (λ next. (word_fault (texts before.now) word.now ≡ None) × AreRead next (texts before.now ++ (word.now ∷ [])))
+        (λ fault. word_fault (texts before.now) word.now ≡ Some fault) }
 {
     if seen.types == 0 && is_option(word) {
-        read_option(seen, word)
+        read_option(seen, before, word)
     } else if type_of(word).is_some() {
         Ok(WordsRead {
             types: seen.types + 1,
@@ -227,7 +256,7 @@ fn read_behind(words: &[String]) -> Result<WordsRead, (usize, WordFault)>
         types: 0,
     };
     for (k, word) in words.iter().enumerate() {
-        match read_word(seen, word.as_str()) {
+        match read_word(seen, &words[..k], word.as_str()) {
             Ok(next) => seen = next,
             Err(fault) => return Err((k + 1, fault)),
         }
@@ -242,6 +271,7 @@ fn read_all(words: &[String]) -> Result<WordsRead, (usize, WordFault)>
         rows_max = unwrap_or seen.rows default_limits.rows_max;
         field_max = unwrap_or seen.field default_limits.field_max;
       };
+      entries = filter_map entry_of (map string_bytes words.now);
       columns = filter_map type_of (map string_bytes words.now);
     })) }
     ensures field { IfOk result (λ seen. IfSome seen.field (λ field. field ≤ 2147483647)) }
@@ -263,6 +293,23 @@ fn read_all(words: &[String]) -> Result<WordsRead, (usize, WordFault)>
         return Err((words.len(), WordFault::Schema(2)));
     }
     Ok(seen)
+}
+
+/// The entries of the oids that the words give, in their order.
+fn known_entries(alloc: Global, words: &[String]) -> Result<FoundOids, NoMemory>
+    ensures { IfOk result (λ entries. entries ≡ filter_map entry_of (map string_bytes words.now)) }
+{
+    let mut entries = FoundOids::new(alloc);
+    for word in words {
+        if let Some(given) = oids_of(word.as_str()) {
+            entries.push(Found {
+                key: TypeKey::new(alloc, Some(given.schema), given.name)?,
+                oid: given.oid,
+                array_oid: given.array_oid,
+            })?;
+        }
+    }
+    Ok(entries)
 }
 
 /// The types that the words name, in their order.
@@ -308,17 +355,18 @@ fn limits_from(seen: WordsRead) -> Limits
     Limits::new(rows, field as u32).unwrap()
 }
 
-/// What the words ask for: the command `copy`, which is the only one, then options, each at most once, and then a type
-/// for each column. `IsPlan` says it.
+/// What the words ask for: the command `copy`, which is the only one, then options, and then a type for each column.
+/// `rows=` and `field=` stand there at most once, and `oid=[schema.]name:OID:ARRAYOID` at most once for each schema and
+/// name, where a name without a schema stands in the schema `public`. `IsPlan` says it.
 ///
 /// Where no plan is what they ask for, the error is their first fault from the left. `IsFirstFault` says which that is.
 /// Memory is asked for only where there is a plan.
 #[tactic(auto, using(crate::proofs::Plans::found_is_plan, crate::proofs::Plans::found_is_first))]
 pub fn read_words(alloc: Global, words: &[String]) -> Result<Plan, WordError>
     ensures plan { IfOk result (λ plan. plan_of words.now
-        ≡ Ok (record { limits = plan.limits; columns = column_shapes plan.schema })) }
+        ≡ Ok (record { limits = plan.limits; entries = plan.entries; columns = column_shapes plan.schema })) }
     ensures is_plan { IfOk result (λ plan. IsPlan (map string_bytes words.now)
-        (record { limits = plan.limits; columns = column_shapes plan.schema })) }
+        (record { limits = plan.limits; entries = plan.entries; columns = column_shapes plan.schema })) }
     ensures built { IfOk result (λ plan. AreBuilt (column_shapes plan.schema)) }
     ensures fault { (place : _) (fault : _) → result ≡ Err (WordError.Fault place fault)
         → plan_of words.now ≡ Err (record { place = place; fault = fault }) }
@@ -339,7 +387,12 @@ pub fn read_words(alloc: Global, words: &[String]) -> Result<Plan, WordError>
         Ok(seen) => seen,
         Err((place, fault)) => return Err(WordError::Fault { place, fault }),
     };
+    let entries = known_entries(alloc, words)?;
     let schema = known_schema(alloc, words)?;
     let limits = limits_from(seen);
-    Ok(Plan { limits, schema })
+    Ok(Plan {
+        limits,
+        entries,
+        schema,
+    })
 }

@@ -11,6 +11,15 @@ returns-in-Err-clause-plans c = plans_agree c.args.words.now
 pub returns-in-Err-clause-faults : goal.returns-in-Err-clause-faults
 returns-in-Err-clause-faults c = faults_agree c.args.words.now
 
+pub returns-in_err-entries-clause-with_plan : goal.returns-in_err-entries-clause-with_plan
+returns-in_err-entries-clause-with_plan c = λ _. (_, found_is_plan (map string_bytes c.args.words.now) _ c.in-Ok.ensures.ok)
+
+pub returns-in_err-entries-clause-plans : goal.returns-in_err-entries-clause-plans
+returns-in_err-entries-clause-plans c = plans_agree c.args.words.now
+
+pub returns-in_err-entries-clause-faults : goal.returns-in_err-entries-clause-faults
+returns-in_err-entries-clause-faults c = faults_agree c.args.words.now
+
 pub returns-in_err-schema-clause-with_plan : goal.returns-in_err-schema-clause-with_plan
 returns-in_err-schema-clause-with_plan c = λ _. (_, found_is_plan (map string_bytes c.args.words.now) _ c.in-Ok.ensures.ok)
 
