@@ -6,3 +6,4 @@ pub mod Excluded
 pub mod Canonical
 pub mod Breaking
 pub mod WorkedArrays
+mod Begun

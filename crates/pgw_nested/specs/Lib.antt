@@ -1,3 +1,4 @@
 pub mod Frames
 pub mod Array
 pub mod Reading
+pub mod Pieces

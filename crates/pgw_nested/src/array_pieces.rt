@@ -1,0 +1,115 @@
+ghost use Rattle.std.specs.Prelude.{◌≡◌, ◌<◌, ◌^◌, ◌++◌, length, MatchResult};
+ghost use Rattle.std.specs.Int.{to_be_bytes, w32};
+ghost use Rattle.pgw_wire.specs.Cell.{cell_of, frame};
+ghost use Rattle.pgw_wire.specs.declared.sql_error.SqlError.TheVariants.{ShortBuffer as short_buffer};
+ghost use Rattle.pgw_nested.specs.Frames.{IsFramed, HasNoFrame};
+ghost use Rattle.pgw_nested.specs.Array.{BeginsArray, BeginsNoArray, elements_in};
+ghost use Rattle.pgw_nested.specs.Pieces.{elements_of, GivesNext};
+
+use pgw_wire::deserialize::Result;
+use pgw_wire::{RawCell, SqlError, take_piece, take_u32};
+
+/// The length of a null, -1, as a number without sign.
+const NULL: u32 = 0xffff_ffff;
+
+/// The least number without sign that is negative as one with sign.
+const NEGATIVE: u32 = 0x8000_0000;
+
+/// The number in the first four bytes, and the rest. `ShortBuffer` exactly where fewer are there.
+fn take_word(bytes: &[u8]) -> Result<(u32, &[u8])>
+    ensures { MatchResult result (λ x. (bytes.now ≡ to_be_bytes w32 x.0 ++ x.1.now) × (x.0 < 2 ^ 32))
+        (λ e. (e ≡ short_buffer) × (length bytes.now < 4)) }
+{
+    take_u32(bytes).ok_or(SqlError::ShortBuffer)
+}
+
+/// The cell whose frame stands in front of the bytes, and the rest: a length of 4 bytes, and as many bytes. Where nulls
+/// may stand, the length -1 is a null's. `ShortBuffer` where the bytes end inside the length, `NegativeSize` with any
+/// other length below 0, and `ElementBytes` with a length that is more than the bytes behind it.
+fn take_cell(nulls: bool, bytes: &[u8]) -> Result<(RawCell<'_>, &[u8])>
+    ensures { MatchResult result
+        (λ x. IsFramed nulls (cell_of x.0) × (bytes.now ≡ frame (cell_of x.0) ++ x.1.now))
+        (λ e. HasNoFrame nulls bytes.now e) }
+{
+    let (len, rest) = take_word(bytes)?;
+    if nulls && len == NULL {
+        return Ok((RawCell::Null, rest));
+    }
+    if len >= NEGATIVE {
+        return Err(SqlError::NegativeSize(len.cast_signed()));
+    }
+    match take_piece(rest, len as usize) {
+        Some((piece, rest)) => Ok((RawCell::Piece(piece), rest)),
+        None => Err(SqlError::ElementBytes {
+            want: len.cast_signed(),
+            have: rest.len(),
+        }),
+    }
+}
+
+/// How many elements a count is of: none where it is negative.
+fn elements_counted(count: u32) -> u32
+    ensures { result ≡ elements_in count }
+{
+    if count < NEGATIVE { count } else { 0 }
+}
+
+/// The elements of an array's field, of which each is read once, in order. It lends them from the field, and takes no
+/// memory.
+///
+/// The field is five numbers of 4 bytes, the dimensions, flags, the oid of the element's type, a count of elements and
+/// the index of the first, and then each element: its length in 4 bytes, and as many bytes. Without dimensions it ends
+/// behind the oid. Bytes behind the end are ignored.
+#[derive(Drop)]
+pub struct ArrayPieces<'a> {
+    rest: &'a [u8],
+    left: u32,
+    nulls: bool,
+}
+
+impl<'a> ArrayPieces<'a> {
+    /// The elements of this field. There are none where the dimensions are 0, or the count is 0 or less. `ShortBuffer`
+    /// exactly where the field has fewer than 12 bytes, or has dimensions and fewer than 20; else `Dimensions` exactly
+    /// where their number is neither 0 nor 1.
+    pub fn new(bytes: &'a [u8]) -> Result<ArrayPieces<'a>>
+        ensures { MatchResult result (λ pieces. BeginsArray bytes.now (elements_of pieces))
+            (λ e. BeginsNoArray bytes.now e) }
+    {
+        let (dimensions, rest) = take_word(bytes)?;
+        let (flags, rest) = take_word(rest)?;
+        let (_oid, rest) = take_word(rest)?;
+        if dimensions == 0 {
+            return Ok(ArrayPieces {
+                rest: &[],
+                left: 0,
+                nulls: false,
+            });
+        }
+        let (count, rest) = take_word(rest)?;
+        let (_bound, rest) = take_word(rest)?;
+        if dimensions != 1 {
+            return Err(SqlError::Dimensions(dimensions.cast_signed()));
+        }
+        Ok(ArrayPieces {
+            rest,
+            left: elements_counted(count),
+            nulls: flags != 0,
+        })
+    }
+
+    /// The next element. None where all were given. The length -1 is a null's where the flags are not 0. `ShortBuffer`
+    /// where the field ends inside the length, `NegativeSize` with any other length below 0, and `ElementBytes` with a
+    /// length that is more than the bytes behind it. A call that is refused changes nothing, so that the next one is
+    /// refused alike.
+    pub fn next_piece(&mut self) -> Result<Option<RawCell<'a>>>
+        ensures { GivesNext (elements_of self.old) result (elements_of self.new) }
+    {
+        if self.left == 0 {
+            return Ok(None);
+        }
+        let (cell, rest) = take_cell(self.nulls, self.rest)?;
+        self.rest = rest;
+        self.left -= 1;
+        Ok(Some(cell))
+    }
+}
