@@ -7,3 +7,5 @@ pub mod Canonical
 pub mod Breaking
 pub mod WorkedArrays
 mod Begun
+mod ReadingOn
+mod Refusals

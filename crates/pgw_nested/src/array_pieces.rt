@@ -1,13 +1,15 @@
-ghost use Rattle.std.specs.Prelude.{◌≡◌, ◌<◌, ◌^◌, ◌++◌, length, MatchResult};
+ghost use Rattle.std.specs.Prelude.{◌≡◌, ◌<◌, ◌^◌, ◌++◌, length, IfSome, MatchResult};
 ghost use Rattle.std.specs.Int.{to_be_bytes, w32};
 ghost use Rattle.pgw_wire.specs.Cell.{cell_of, frame};
 ghost use Rattle.pgw_wire.specs.declared.sql_error.SqlError.TheVariants.{ShortBuffer as short_buffer};
+ghost use Rattle.pgw_meta.specs.Reading.{cell_of_value};
 ghost use Rattle.pgw_nested.specs.Frames.{IsFramed, HasNoFrame};
 ghost use Rattle.pgw_nested.specs.Array.{BeginsArray, BeginsNoArray, elements_in};
 ghost use Rattle.pgw_nested.specs.Pieces.{elements_of, GivesNext};
 
 use pgw_wire::deserialize::Result;
-use pgw_wire::{RawCell, SqlError, take_piece, take_u32};
+use pgw_wire::{PgValue, RawCell, SqlError, take_piece, take_u32};
+use std::num::NonZeroU32;
 
 /// The length of a null, -1, as a number without sign.
 const NULL: u32 = 0xffff_ffff;
@@ -52,6 +54,17 @@ fn elements_counted(count: u32) -> u32
     ensures { result ≡ elements_in count }
 {
     if count < NEGATIVE { count } else { 0 }
+}
+
+/// The field that a cell inside of a value is, with the oid of that value. None for a null.
+pub(crate) fn value_of(cell: RawCell<'_>, oid: NonZeroU32) -> Option<PgValue<'_>>
+    ensures cell { cell_of_value result ≡ cell_of cell.entry }
+    ensures oid { IfSome result (λ value. value.type_oid ≡ oid) }
+{
+    match cell {
+        RawCell::Null => None,
+        RawCell::Piece(bytes) => Some(PgValue::new(bytes, oid)),
+    }
 }
 
 /// The elements of an array's field, of which each is read once, in order. It lends them from the field, and takes no
