@@ -9,3 +9,4 @@ pub mod WorkedArrays
 mod Begun
 mod ReadingOn
 mod Refusals
+mod Writings

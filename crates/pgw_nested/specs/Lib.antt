@@ -4,3 +4,6 @@ pub mod Reading
 pub mod Naming
 pub mod Nullable
 pub mod Pieces
+pub mod Written
+pub mod Marks
+pub mod Writing

@@ -1,9 +1,10 @@
-ghost use Rattle.pgw_nested.specs.Nullable.{ReadsNullable, RefusesNullable};
+ghost use Rattle.pgw_nested.specs.Nullable.{ReadsNullable, RefusesNullable, WritesNullable};
 
 use crate::sql_types::Nullable;
-use pgw_meta::NotNull;
 use pgw_meta::deserialize::{self, FromSql};
-use pgw_wire::PgValue;
+use pgw_meta::serialize::{self, ToSql};
+use pgw_meta::{NotNull, PgMetadataLookup};
+use pgw_wire::{IsNull, Output, PgValue};
 use std::alloc::Global;
 
 /// The field of a type that allows null: a null, or the field of its part.
@@ -27,6 +28,19 @@ impl<ST: NotNull, T: FromSql<ST>> FromSql<Nullable<ST>> for Option<T> {
         match value {
             Some(value) => Ok(Some(T::from_sql(alloc, value)?)),
             None => Ok(None),
+        }
+    }
+}
+
+impl<ST: NotNull, T: ToSql<ST>> ToSql<Nullable<ST>> for Option<T> {
+    ghost writes = { WritesNullable T.writes };
+
+    /// None is `Yes`, and no byte is appended. A value is written as one of the part, and what that answers is handed
+    /// on.
+    fn to_sql<L: PgMetadataLookup>(&self, out: &mut Output<'_, L>) -> serialize::Result {
+        match self {
+            Some(value) => value.to_sql(out),
+            None => Ok(IsNull::Yes),
         }
     }
 }
