@@ -25,6 +25,3 @@ pub use plain::PlainCell;
 pub use read::{CellFault, read_cell};
 pub use rewrite::rewrite_cell;
 pub use write::{WriteCellFault, write_cell};
-
-#[cfg(test)]
-mod tests;

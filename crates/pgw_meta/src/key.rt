@@ -111,8 +111,8 @@ impl TypeKey {
         }
     }
 
-    /// The same key, with texts of its own.
-    pub(crate) fn copy(&self, alloc: Global) -> Result<TypeKey, NoMemory>
+    /// The same key, with texts of its own. `NoMemory` only for want of memory.
+    pub fn copy(&self, alloc: Global) -> Result<TypeKey, NoMemory>
         ensures { IfOk result (λ key. owned_key key ≡ owned_key self.now) }
     {
         let key = self.as_key();

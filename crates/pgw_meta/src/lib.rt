@@ -38,14 +38,3 @@ pub use schema::{Schema, SchemaError};
 pub use serialize::{ToSql, WriteError};
 pub use sql_types::{HasSqlType, NotNull, RangeElement, SingleValue, SqlType};
 pub use types::{PgType, TypeList};
-
-#[cfg(test)]
-mod catalog_tests;
-#[cfg(test)]
-mod codec_tests;
-#[cfg(test)]
-mod needs_tests;
-#[cfg(test)]
-mod schema_tests;
-#[cfg(test)]
-mod tests;

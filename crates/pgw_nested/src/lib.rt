@@ -15,6 +15,3 @@ pub use array::Items;
 pub use array_pieces::ArrayPieces;
 pub use marks::{ArrayMark, PieceMark, begin_array, begin_piece, end_piece, null_flag, null_piece};
 pub use reserved::{close_length, place_array, place_length};
-
-#[cfg(test)]
-mod tests;

@@ -11,6 +11,3 @@ mod writing;
 
 pub use numeric::PgNumeric;
 pub use pgw_wire::InvalidNumericSign;
-
-#[cfg(test)]
-mod tests;

@@ -28,10 +28,3 @@ pub use partial_row::PartialRow;
 pub use pg_row::PgRow;
 pub use result::{PgResult, ResultColumn, ResultError};
 pub use row::{NamedRow, Row, RowIndex, RowNames};
-
-#[cfg(test)]
-mod building_tests;
-#[cfg(test)]
-mod result_tests;
-#[cfg(test)]
-mod tests;

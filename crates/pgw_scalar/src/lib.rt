@@ -22,6 +22,3 @@ pub use money::PgMoney as Cents;
 pub use networks::{IpNetwork, Ipv4Network, Ipv6Network, PrefixError};
 pub use pg_lsn::PgLsn;
 pub use text::TextRef;
-
-#[cfg(test)]
-mod tests;

@@ -10,6 +10,3 @@ pub mod sql_types;
 
 pub use date_and_time::{PgDate, PgTime, PgTimestamp};
 pub use interval::PgInterval;
-
-#[cfg(test)]
-mod tests;

@@ -14,7 +14,7 @@ use Rattle.pgw_cell.specs.Value.{Value}
 use Rattle.pgw_tree.specs.Stream.{IsStream, IsValidStream, IsWithin}
 use Rattle.pgw_tree.specs.Limits.{Limits}
 use Rattle.pgw_tree.specs.Lookups.{IsLookupFault}
-use Rattle.pgw_tree.specs.Causes.{Form, IsCopied, fault_says, copy_says, in_header, in_row, in_end}
+use Rattle.pgw_tree.specs.Causes.{Form, IsCopied, copy_says, in_header, in_row, in_end}
 use Rattle.pgw_tree.specs.Copying.{Copies}
 use Rattle.pgw_tree.proofs.Excluded.{excluded}
 use Rattle.pgw_tree.proofs.Unique.{stream_once}

@@ -1,22 +1,18 @@
 -- Needs that are looked up one after another, in order.
-use Rattle.std.proofs.Common.{◌≡◌, ℕ, suc, zero, ◌+◌, ◌<◌, ◌≤◌, Bool, true, false, cond, List, [], ◌∷◌, ◌++◌, length, get_or, take, drop, Option, Some, None, Result, Ok, Err, Decides, refl, sym, ap, subst, ◌∙◌, arith, drop-cons, add-one, inl, inr, ◌⊎◌}
-use Rattle.std.specs.Prelude.{⊤, IsErrAnd}
+use Rattle.std.proofs.Common.{◌≡◌, ℕ, ◌+◌, ◌<◌, ◌≤◌, Bool, true, false, cond, List, [], ◌∷◌, ◌++◌, length, get_or, take, drop, Option, Some, None, Ok, Err, refl, sym, ap, subst, ◌∙◌, arith, drop-cons, add-one}
 use Rattle.std.specs.Option.{option_map_or, ok_or}
-use Rattle.std.proofs.lemmas.Bool.{false≢true}
-use Rattle.std.proofs.lemmas.Option.{none-some}
-use Rattle.std.proofs.lemmas.List.{length-map, get_or-map, take_more, take_all, drop_all}
+use Rattle.std.proofs.lemmas.List.{length-map, get_or-map, take_more, drop_all}
 use Rattle.pgw_wire.specs.Outside.{HasFailed}
 use Rattle.pgw_meta.specs.Known.{Key, Oids, Known, Knowledge, LookupState, known}
 use Rattle.pgw_meta.specs.Metadata.{found}
 use Rattle.pgw_meta.specs.declared.metadata_lookup.LookupError.{LookupError}
 use Rattle.pgw_meta.specs.declared.metadata_lookup.LookupError.TheVariants.{Failed as failed_call, NoMemory as no_memory_left}
 use Rattle.pgw_tree.specs.declared.fault.CopyFault.{CopyFault}
-use Rattle.pgw_tree.specs.declared.fault.CopyFault.TheVariants.{UnknownType}
 use Rattle.pgw_meta.specs.Keys.{owned_key}
 use Rattle.pgw_meta.specs.Needs.{NeededKey, needed_key, needed_keys}
 use Rattle.pgw_meta.specs.declared.needs.Need.{Need}
 use Rattle.pgw_meta.specs.declared.found_oids.Found.{Found}
-use Rattle.pgw_tree.specs.Lookups.{meets, is_met, first_unmet, entry_oids, IsFound, AreFound, IsFirstUnmet, AreMet, HasFailedAsked, LookupCause, unknown_type, lookup_fault, no_memory, looked_up_fault}
+use Rattle.pgw_tree.specs.Lookups.{meets, is_met, first_unmet, entry_oids, IsFound, AreFound, IsFirstUnmet, HasFailedAsked, LookupCause, unknown_type, lookup_fault, no_memory, looked_up_fault}
 
 pub found_more : (told : Option Known) (ns : List NeededKey) (fs : List Found) (n : NeededKey) (f : Found) → AreFound told ns fs → IsFound told n f → AreFound told (ns ++ (n ∷ [])) (fs ++ (f ∷ []))
 found_more told [] [] n f each one = (one, tt)

@@ -1,15 +1,14 @@
 -- What a fault of the needs, which are looked up first, says of the copy.
-use Rattle.std.proofs.Common.{◌≡◌, ◌⊎◌, ℕ, List, [], ◌∷◌, flat_map, Option, Some, None, Result, Ok, Err, refl, sym, ap, subst, ◌∙◌, inl, inr}
-use Rattle.std.specs.Prelude.{⊤, IsErrAnd}
+use Rattle.std.proofs.Common.{◌≡◌, ◌⊎◌, ℕ, List, [], ◌∷◌, flat_map, Option, Some, Result, Err, refl, sym, ap, subst, ◌∙◌, inl, inr}
+use Rattle.std.specs.Prelude.{IsErrAnd}
 use Rattle.std.proofs.lemmas.Option.{none-some}
-use Rattle.pgw_wire.specs.Outside.{SinkState, HasFailed, Wrote}
+use Rattle.pgw_wire.specs.Outside.{SinkState, Wrote}
 use Rattle.pgw_wire.proofs.Adding.{wrote_none}
 use Rattle.pgw_meta.specs.Known.{Key, Known, LookupState}
 use Rattle.pgw_meta.specs.Keys.{owned_key}
 use Rattle.pgw_meta.specs.Needs.{NeededKey, needs_of, field_needs, with_needs}
 use Rattle.pgw_meta.specs.Shape.{Shape, scalar, nullable, array, range, multirange, composite, named}
 use Rattle.pgw_meta.specs.declared.key.TypeKey.{TypeKey}
-use Rattle.pgw_meta.specs.declared.found_oids.Found.{Found}
 use Rattle.pgw_cell.specs.Built.{IsBuilt}
 use Rattle.pgw_tree.specs.ColumnTypes.{AreBuilt}
 use Rattle.pgw_tree.specs.Limits.{Limits}

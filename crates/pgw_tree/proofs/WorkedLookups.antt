@@ -1,5 +1,5 @@
 -- What the definitions say of needs, and of what a lookup knows of their keys, that are written out.
-use Rattle.std.proofs.Common.{◌≡◌, ℕ, Bool, true, false, List, [], ◌∷◌, Some, None, refl}
+use Rattle.std.proofs.Common.{◌≡◌, ℕ, Bool, true, false, [], ◌∷◌, Some, None, refl}
 use Rattle.pgw_meta.specs.Known.{Key, Known}
 use Rattle.pgw_meta.specs.Needs.{NeededKey}
 use Rattle.pgw_meta.specs.NamedOids.{known_of}

@@ -1,5 +1,5 @@
 -- Which of the oids that are needed of named types a lookup has, and which need it lacks first.
-use Rattle.std.specs.Prelude.{◌≡◌, ◌==◌, ◌&&◌, not, Bool, true, false, List, [], ◌∷◌, Option, None, Some, Result, Ok, Err, ⊤, if◌then◌else◌}
+use Rattle.std.specs.Prelude.{◌≡◌, ◌==◌, ◌&&◌, not, Bool, true, false, List, [], ◌∷◌, Option, None, Some, Result, Err, ⊤, if◌then◌else◌}
 use Rattle.std.specs.Option.{option_map_or}
 use Rattle.pgw_wire.specs.Outside.{HasFailed}
 use Rattle.pgw_meta.specs.Known.{Key, Oids, Known, LookupState}

@@ -3,25 +3,17 @@
 #![tactic(auto)]
 
 mod columns;
-#[cfg(test)]
-mod copy_tests;
 mod fault;
 mod fields;
 mod limits;
 mod needs;
-#[cfg(test)]
-mod needs_tests;
 mod next_row;
 mod plain;
 mod respell;
 mod rewrite;
-#[cfg(test)]
-mod row_tests;
 mod send_fault;
 mod shown;
 mod stream;
-#[cfg(test)]
-mod tests;
 
 pub use fault::CopyFault;
 pub use limits::{FIELD_MAX, Limits};

@@ -11,14 +11,6 @@ use pgw_meta::{Found, FoundOids, LookupError, Need, PgMetadataLookup, PgTypeMeta
 use pgw_wire::NoMemory;
 use std::alloc::Global;
 
-/// An equal key.
-fn copy_key(alloc: Global, key: &TypeKey) -> Result<TypeKey, NoMemory>
-    ensures { IfOk result (λ copy. owned_key copy ≡ owned_key key.now) }
-{
-    let key = key.as_key();
-    TypeKey::new(alloc, key.schema(), key.type_name())
-}
-
 /// Whether those of the two oids that are needed are not 0.
 fn is_enough(need: &Need, oid: u32, array_oid: u32) -> bool
     ensures { result ≡ meets (needed_key need.now) (record { oid = oid; array_oid = array_oid }) }
@@ -57,7 +49,7 @@ fn look_up<L: PgMetadataLookup>(
     ensures faults { (L.state lookup.old).fault_count ≤ (L.state lookup.new).fault_count }
 {
     let metadata = ask(alloc, &need.key, lookup)?;
-    let key = copy_key(alloc, &need.key)?;
+    let key = need.key.copy(alloc)?;
     match metadata.into_oids() {
         Ok((oid, array_oid)) => {
             if is_enough(need, oid, array_oid) {

@@ -35,10 +35,3 @@ pub use quiet::{QuietSink, QuietSource};
 pub use sending::send;
 pub use sql_error::{FieldError, InvalidNumericSign, NetworkFault, SqlError};
 pub use value::{PgValue, TypeOidLookup};
-
-#[cfg(test)]
-mod error_tests;
-#[cfg(test)]
-mod output_tests;
-#[cfg(test)]
-mod tests;

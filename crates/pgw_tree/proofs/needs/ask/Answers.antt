@@ -1,5 +1,4 @@
 use Rattle.std.proofs.Common.{◌∙◌, ap, refl}
-use Rattle.std.specs.Option.{option_map}
 use Rattle.std.proofs.lemmas.Result.{IfOk-weaker}
 use Rattle.pgw_meta.specs.Metadata.{found}
 use Rattle.pgw_meta.specs.Keys.{key_of, owned_key, text_of}

@@ -1,10 +1,9 @@
 use Rattle.std.proofs.Common.{◌∙◌, ◌+◌, ◌∷◌, [], ◌++◌, take, Ok, refl, sym, ap, subst, arith}
-use Rattle.std.specs.Prelude.{IfErr}
 use Rattle.std.proofs.lemmas.List.{take_all, length-map}
 use Rattle.pgw_wire.proofs.Taking.{exit}
 use Rattle.pgw_meta.specs.Known.{Knowledge, known}
 use Rattle.pgw_meta.specs.Needs.{needed_key, needed_keys}
-use Rattle.pgw_tree.specs.Lookups.{AreFound, IsFound, IsFirstUnmet, HasFailedAsked, LookupCause, no_memory}
+use Rattle.pgw_tree.specs.Lookups.{AreFound, IsFound, no_memory}
 use Rattle.pgw_tree.proofs.Found.{found_more, need_at, first_behind, all_met, cause_here, no_needs_no_place}
 use Rattle.pgw_tree.proofs.needs.look_up_all.Goals as goal
 

@@ -1,4 +1,4 @@
-use Rattle.std.proofs.Common.{◌∙◌, ◌⊎◌, Ok, Err, Some, refl, sym, ap, subst, inl, inr}
+use Rattle.std.proofs.Common.{◌∙◌, refl, sym, subst, inr}
 use Rattle.std.proofs.lemmas.Option.{none-some}
 use Rattle.std.proofs.lemmas.Result.{err_from_is_err_and}
 use Rattle.pgw_wire.proofs.Taking.{exit, took_none, takes_refused, takes_first, takes_done}

@@ -1,4 +1,4 @@
-use crate::{
+use pgw_meta::{
     CatalogError, FailedToLookupTypeError, Found, FoundOids, InnerPgTypeMetadata, LookupError,
     NameText, PgMetadataCacheKey, PgType, PgTypeMetadata, SchemaError, TypeKey, TypeList,
 };

@@ -4,8 +4,8 @@ ghost use Rattle.pgw_meta.specs.Types.{shape, types_of, column_shapes};
 ghost use Rattle.pgw_cell.specs.Built.{IsBuilt};
 ghost use Rattle.pgw_tree.specs.ColumnTypes.{AreBuilt};
 
-use crate::{CopyFault, Limits, recopy};
 use pgw_meta::{CachedLookup, Dummy, MemoryCatalog, PgType, Schema, TypeKey, TypeList};
+use pgw_tree::{CopyFault, Limits, recopy};
 use pgw_wire::{Break, Failed, MemorySink, MemorySource, NoMemory, QuietSource, Sink, Source};
 use std::alloc::Global;
 use std::test::Fail;

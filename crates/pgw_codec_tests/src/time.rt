@@ -1,7 +1,7 @@
-use crate::{PgDate, PgInterval, PgTime, PgTimestamp, sql_types};
 use pgw_meta::{
     Defaultable, Dummy, FromSql, HasSqlType, Pg, PgTypeMetadata, RangeElement, ToSql, deserialize,
 };
+use pgw_time::{PgDate, PgInterval, PgTime, PgTimestamp, sql_types};
 use pgw_wire::{ByteBuffer, IsNull, Output, PgValue, SqlError};
 use std::alloc::Global;
 use std::num::NonZeroU32;

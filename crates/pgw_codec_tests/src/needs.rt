@@ -1,4 +1,4 @@
-use crate::{
+use pgw_meta::{
     Found, FoundOids, Need, NeedList, PgMetadataLookup, PgType, Schema, TypeKey, TypeList,
     array_oid_of, oid_of,
 };

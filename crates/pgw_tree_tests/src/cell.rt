@@ -2,7 +2,7 @@ ghost use Rattle.std.specs.Prelude.{IfOk};
 ghost use Rattle.pgw_meta.specs.Types.{shape};
 ghost use Rattle.pgw_cell.specs.Built.{IsBuilt};
 
-use crate::{
+use pgw_cell::{
     ByteList, CellFault, Datum, DigitList, MeasureFault, PlainCell, WriteCellFault, laws,
     measure_cell, read_cell, rewrite_cell, write_cell,
 };

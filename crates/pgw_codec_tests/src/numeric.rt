@@ -1,10 +1,10 @@
-use crate::field::{Front, Header, Sign, canonical_front, sign_of, take_header, take_parts};
-use crate::sql_types::Numeric;
-use crate::{InvalidNumericSign, PgNumeric};
 use pgw_meta::{
     Defaultable, Dummy, FromSql, HasSqlType, Pg, PgTypeMetadata, RangeElement, ToSql, WriteError,
     deserialize, serialize,
 };
+use pgw_numeric::field::{Front, Header, Sign, canonical_front, sign_of, take_header, take_parts};
+use pgw_numeric::sql_types::Numeric;
+use pgw_numeric::{InvalidNumericSign, PgNumeric};
 use pgw_wire::{Break, ByteBuffer, IsNull, Output, PgValue, SqlError};
 use std::alloc::Global;
 use std::num::NonZeroU32;

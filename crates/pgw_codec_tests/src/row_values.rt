@@ -1,38 +1,14 @@
 //! Rows of a result that are read as tuples of an `Integer` and a `Text`.
 
-use pgw_row::{FromSqlRow, NamedRow, PgResult, ResultColumn, Row, build_optional};
+use crate::row::one_row;
+use pgw_row::{FromSqlRow, NamedRow, Row, build_optional};
 use pgw_scalar::sql_types::{Integer, Text};
 use pgw_wire::{FieldError, SqlError};
-use std::alloc::{AllocError, Global};
-use std::num::NonZeroU32;
+use std::alloc::Global;
 use std::test::Fail;
 
-fn column(alloc: Global, name: &str) -> Result<ResultColumn, AllocError> {
-    Ok(ResultColumn {
-        name: Some(String::from_str(alloc, name)?),
-        oid: NonZeroU32::MIN,
-    })
-}
-
-fn cell(alloc: Global, piece: Option<&[u8]>) -> Result<Option<Vec<u8>>, AllocError> {
-    match piece {
-        Some(piece) => Ok(Some(piece.to_vec(alloc)?)),
-        None => Ok(None),
-    }
-}
-
-/// A result of the columns `id` and `name`, with one row of these cells.
-fn result_of(alloc: Global, id: Option<&[u8]>, name: Option<&[u8]>) -> Result<PgResult, Fail> {
-    let mut columns = Vec::new(alloc);
-    columns.push(column(alloc, "id")?)?;
-    columns.push(column(alloc, "name")?)?;
-    let mut row = Vec::new(alloc);
-    row.push(cell(alloc, id)?)?;
-    row.push(cell(alloc, name)?)?;
-    let mut rows = Vec::new(alloc);
-    rows.push(row)?;
-    Ok(PgResult::from_parts(columns, rows, String::new(alloc))?)
-}
+/// The columns of the rows.
+const NAMES: &[&str] = &["id", "name"];
 
 /// Why a row is read as no tuple.
 fn refusal<R: Row>(alloc: Global, row: &R) -> Option<SqlError> {
@@ -42,7 +18,7 @@ fn refusal<R: Row>(alloc: Global, row: &R) -> Option<SqlError> {
 #[test]
 fn tuples_are_read_from_rows_of_a_result(rt: HostRuntime) -> Result<(), Fail> {
     let alloc = rt.alloc();
-    let result = result_of(alloc, Some(b"\0\0\0\x2a"), Some(b"Sean"))?;
+    let result = one_row(alloc, NAMES, &[Some(b"\0\0\0\x2a"), Some(b"Sean")])?;
     let Some(row) = result.get_row(0) else {
         panic!(rt; "no row");
     };
@@ -57,9 +33,9 @@ fn tuples_are_read_from_rows_of_a_result(rt: HostRuntime) -> Result<(), Fail> {
 #[test]
 fn a_row_is_refused_for_its_first_field_that_is(rt: HostRuntime) -> Result<(), Fail> {
     let alloc = rt.alloc();
-    let null = result_of(alloc, Some(b"\0\0\0\x2a"), None)?;
-    let short = result_of(alloc, Some(b"\0\0\x2a"), Some(b"Sean"))?;
-    let first_null = result_of(alloc, None, Some(b"Sean"))?;
+    let null = one_row(alloc, NAMES, &[Some(b"\0\0\0\x2a"), None])?;
+    let short = one_row(alloc, NAMES, &[Some(b"\0\0\x2a"), Some(b"Sean")])?;
+    let first_null = one_row(alloc, NAMES, &[None, Some(b"Sean")])?;
     let (Some(null), Some(short), Some(first_null)) = (
         null.get_row(0),
         short.get_row(0),

@@ -1,9 +1,12 @@
 ghost use Rattle.std.specs.Prelude.{◌≡◌, ◌⊎◌, codes, false};
 ghost use Rattle.pgw_row.specs.Building.{ReadsNamed, RefusesNamed};
 
-use super::*;
-use crate::tests::{Byte, Small, cell, column, columns};
+use crate::row::{Byte, Small, one_row};
 use pgw_meta::{FromSql, deserialize};
+use pgw_row::{
+    Field, FromSqlRow, NamedRow, Queryable, QueryableByName, Row, StaticallySizedRow,
+    build_optional, build_queryable,
+};
 use pgw_wire::{FieldError, SqlError};
 use std::alloc::Global;
 use std::test::Fail;
@@ -47,6 +50,9 @@ impl QueryableByName for Point {
     }
 }
 
+/// The columns a, b and a.
+const NAMES: &[&str] = &["a", "b", "a"];
+
 fn pair<R: Row>(alloc: Global, row: &R) -> deserialize::Result<(Byte, Byte)> {
     <(Byte, Byte) as FromSqlRow<(Small, Small)>>::build_from_row(alloc, row)
 }
@@ -59,9 +65,10 @@ fn first<R: Row>(alloc: Global, row: &R) -> deserialize::Result<Option<(Byte,)>>
 #[test]
 fn tuples_are_built_of_fields_in_order(rt: HostRuntime) -> Result<(), Fail> {
     let alloc = rt.alloc();
-    let columns = columns(alloc)?;
-    let cells = [cell(alloc, 1)?, cell(alloc, 2)?, cell(alloc, 3)?];
-    let row = PgRow::new(&columns, &cells);
+    let result = one_row(alloc, NAMES, &[Some(b"\x01"), Some(b"\x02"), Some(b"\x03")])?;
+    let Some(row) = result.get_row(0) else {
+        panic!(rt; "no row");
+    };
     assert!(rt; pair(alloc, &row) == Ok((Byte(1), Byte(2))));
     assert!(rt; pair(alloc, &row.partial_row(1..3)) == Ok((Byte(2), Byte(3))));
     assert!(rt; pair(alloc, &row.partial_row(2..3)) == Err(SqlError::UnexpectedEndOfRow));
@@ -72,9 +79,10 @@ fn tuples_are_built_of_fields_in_order(rt: HostRuntime) -> Result<(), Fail> {
 #[test]
 fn a_type_of_ones_own_is_built_by_place_and_by_name(rt: HostRuntime) -> Result<(), Fail> {
     let alloc = rt.alloc();
-    let columns = columns(alloc)?;
-    let cells = [cell(alloc, 1)?, cell(alloc, 2)?, cell(alloc, 3)?];
-    let row = PgRow::new(&columns, &cells);
+    let result = one_row(alloc, NAMES, &[Some(b"\x01"), Some(b"\x02"), Some(b"\x03")])?;
+    let Some(row) = result.get_row(0) else {
+        panic!(rt; "no row");
+    };
     let point = Point {
         x: Byte(1),
         y: Byte(2),
@@ -89,9 +97,10 @@ fn a_type_of_ones_own_is_built_by_place_and_by_name(rt: HostRuntime) -> Result<(
 #[test]
 fn the_first_field_that_is_refused_is_told(rt: HostRuntime) -> Result<(), Fail> {
     let alloc = rt.alloc();
-    let columns = columns(alloc)?;
-    let cells = [cell(alloc, 1)?, Some(b"\x02\x03".to_vec(alloc)?), None];
-    let row = PgRow::new(&columns, &cells);
+    let result = one_row(alloc, NAMES, &[Some(b"\x01"), Some(b"\x02\x03"), None])?;
+    let Some(row) = result.get_row(0) else {
+        panic!(rt; "no row");
+    };
     let second = SqlError::Field(FieldError {
         column: 1,
         number: 4,
@@ -110,9 +119,10 @@ fn the_first_field_that_is_refused_is_told(rt: HostRuntime) -> Result<(), Fail> 
 #[test]
 fn a_null_makes_an_optional_value_none(rt: HostRuntime) -> Result<(), Fail> {
     let alloc = rt.alloc();
-    let columns = columns(alloc)?;
-    let cells = [cell(alloc, 1)?, None, Some(b"\x02\x03".to_vec(alloc)?)];
-    let row = PgRow::new(&columns, &cells);
+    let result = one_row(alloc, NAMES, &[Some(b"\x01"), None, Some(b"\x02\x03")])?;
+    let Some(row) = result.get_row(0) else {
+        panic!(rt; "no row");
+    };
     assert!(rt; pair(alloc, &row) == Err(SqlError::UnexpectedNull));
     assert!(rt; first(alloc, &row) == Ok(Some((Byte(1),))));
     assert!(rt; first(alloc, &row.partial_row(1..3)) == Ok(None));
@@ -128,13 +138,17 @@ fn a_null_makes_an_optional_value_none(rt: HostRuntime) -> Result<(), Fail> {
 #[test]
 fn a_tuple_of_eight_members_is_built(rt: HostRuntime) -> Result<(), Fail> {
     let alloc = rt.alloc();
-    let mut columns = Vec::new(alloc);
-    let mut cells = Vec::new(alloc);
-    for number in 1..9 {
-        columns.push(column(alloc, None)?)?;
-        cells.push(cell(alloc, number)?)?;
+    let mut cells: [Option<&[u8]>; 8] = [None; 8];
+    for (cell, piece) in cells
+        .iter_mut()
+        .zip(b"\x01\x02\x03\x04\x05\x06\x07\x08".chunks(1))
+    {
+        *cell = Some(piece);
     }
-    let row = PgRow::new(&columns, &cells);
+    let result = one_row(alloc, &["n"; 8], &cells)?;
+    let Some(row) = result.get_row(0) else {
+        panic!(rt; "no row");
+    };
     let eight = build_queryable::<
         (Byte, Byte, Byte, Byte, Byte, Byte, Byte, Byte),
         (Small, Small, Small, Small, Small, Small, Small, Small),

@@ -1,4 +1,4 @@
-use crate::{
+use pgw_meta::{
     CachedLookup, CatalogError, GetPgMetadataCache, InnerPgTypeMetadata, LookupError,
     MemoryCatalog, PgMetadataCache, PgMetadataLookup, TypeCatalog, TypeKey,
 };

@@ -1,4 +1,4 @@
-use crate::{
+use pgw_row::{
     DatabaseErrorKind, PgErrorInformation, PgNotification, PgResult, ResultColumn, ResultError,
     Row, RowNames, kind_of,
 };

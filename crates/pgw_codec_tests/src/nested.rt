@@ -1,9 +1,9 @@
-use crate::sql_types::{Array, Nullable};
-use crate::{
+use pgw_meta::{Dummy, FromSql, HasSqlType, Pg, ToSql, WriteError, deserialize, serialize};
+use pgw_nested::sql_types::{Array, Nullable};
+use pgw_nested::{
     ArrayPieces, Items, begin_array, begin_piece, close_length, end_piece, null_flag, null_piece,
     place_array, place_length,
 };
-use pgw_meta::{Dummy, FromSql, HasSqlType, Pg, ToSql, WriteError, deserialize, serialize};
 use pgw_scalar::TextRef;
 use pgw_scalar::sql_types::{Citext, Integer, Text};
 use pgw_wire::{ByteBuffer, IsNull, Output, PgValue, RawCell, SqlError};

@@ -2,11 +2,13 @@ ghost use Rattle.std.specs.Prelude.{◌≡◌, ◌≢◌, [], ◌∷◌, length,
 ghost use Rattle.pgw_meta.specs.Reading.{ReadsPiece, RefusesPiece};
 ghost use Rattle.pgw_wire.specs.declared.sql_error.SqlError.TheVariants.{WrongSize as wrong_size};
 
-use super::*;
 use pgw_meta::FromSql;
 use pgw_meta::deserialize::{self, required};
+use pgw_row::{
+    Field, NamedRow, PartialRow, PgField, PgResult, ResultColumn, Row, RowIndex, RowNames,
+};
 use pgw_wire::{PgValue, RawCell, SqlError, TypeOidLookup};
-use std::alloc::{AllocError, Global};
+use std::alloc::Global;
 use std::num::NonZeroU32;
 use std::test::Fail;
 
@@ -38,19 +40,29 @@ impl FromSql<Small> for Byte {
     }
 }
 
-pub(crate) fn column(alloc: Global, name: Option<&str>) -> Result<ResultColumn, AllocError> {
-    let name = match name {
-        Some(name) => Some(name.to_string(alloc)?),
-        None => None,
-    };
-    Ok(ResultColumn {
-        name,
-        oid: NonZeroU32::MIN,
-    })
-}
-
-pub(crate) fn cell(alloc: Global, number: u8) -> Result<Option<Vec<u8>>, AllocError> {
-    Ok(Some([number].to_vec(alloc)?))
+/// A result of one row: its columns' names, and its cells.
+pub(crate) fn one_row(
+    alloc: Global,
+    names: &[&str],
+    pieces: &[Option<&[u8]>],
+) -> Result<PgResult, Fail> {
+    let mut columns = Vec::new(alloc);
+    for name in names {
+        columns.push(ResultColumn {
+            name: Some(name.to_string(alloc)?),
+            oid: NonZeroU32::MIN,
+        })?;
+    }
+    let mut cells = Vec::new(alloc);
+    for piece in pieces {
+        cells.push(match piece {
+            Some(piece) => Some(piece.to_vec(alloc)?),
+            None => None,
+        })?;
+    }
+    let mut rows = Vec::new(alloc);
+    rows.push(cells)?;
+    Ok(PgResult::from_parts(columns, rows, String::new(alloc))?)
 }
 
 /// The number in a field's one byte, if there is such a field.
@@ -71,21 +83,22 @@ fn a_field_made_by_hand_says_what_it_was_made_of(rt: HostRuntime) {
     assert!(rt; null.is_null() && null.field_name() == None);
 }
 
-/// Columns of the names a, b and a.
-pub(crate) fn columns(alloc: Global) -> Result<[ResultColumn; 3], AllocError> {
-    Ok([
-        column(alloc, Some("a"))?,
-        column(alloc, Some("b"))?,
-        column(alloc, Some("a"))?,
-    ])
+/// The columns a, b and a, and the cells 01, null and 03.
+fn with_null(alloc: Global) -> Result<PgResult, Fail> {
+    one_row(
+        alloc,
+        &["a", "b", "a"],
+        &[Some(b"\x01"), None, Some(b"\x03")],
+    )
 }
 
 #[test]
 fn fields_are_found_by_place_and_by_name(rt: HostRuntime) -> Result<(), Fail> {
     let alloc = rt.alloc();
-    let columns = columns(alloc)?;
-    let cells = [cell(alloc, 1)?, None, cell(alloc, 3)?];
-    let row = PgRow::new(&columns, &cells);
+    let result = with_null(alloc)?;
+    let Some(row) = result.get_row(0) else {
+        panic!(rt; "no row");
+    };
     assert!(rt; row.field_count() == 3);
     assert!(rt; number(row.get(2)) == Some(3));
     assert!(rt; row.get(3).is_none());
@@ -98,9 +111,10 @@ fn fields_are_found_by_place_and_by_name(rt: HostRuntime) -> Result<(), Fail> {
 #[test]
 fn values_are_read_by_place_and_by_name(rt: HostRuntime) -> Result<(), Fail> {
     let alloc = rt.alloc();
-    let columns = columns(alloc)?;
-    let cells = [cell(alloc, 1)?, None, cell(alloc, 3)?];
-    let row = PgRow::new(&columns, &cells);
+    let result = with_null(alloc)?;
+    let Some(row) = result.get_row(0) else {
+        panic!(rt; "no row");
+    };
     assert!(rt; row.get_value::<Small, Byte>(alloc, 0) == Ok(Byte(1)));
     assert!(rt; row.get_value::<Small, Byte>(alloc, 1) == Err(SqlError::UnexpectedNull));
     assert!(rt; row.get_value::<Small, Byte>(alloc, 3) == Err(SqlError::UnexpectedEndOfRow));
@@ -112,9 +126,10 @@ fn values_are_read_by_place_and_by_name(rt: HostRuntime) -> Result<(), Fail> {
 #[test]
 fn a_window_has_its_places_alone(rt: HostRuntime) -> Result<(), Fail> {
     let alloc = rt.alloc();
-    let columns = columns(alloc)?;
-    let cells = [cell(alloc, 1)?, None, cell(alloc, 3)?];
-    let row = PgRow::new(&columns, &cells);
+    let result = with_null(alloc)?;
+    let Some(row) = result.get_row(0) else {
+        panic!(rt; "no row");
+    };
     let window = row.partial_row(1..3);
     assert!(rt; window.idx_name("b") == Some(1) && window.idx_name("a") == None);
     assert!(rt; window.get_named("b").is_some() && window.get_named("a").is_none());
@@ -130,9 +145,10 @@ fn a_window_has_its_places_alone(rt: HostRuntime) -> Result<(), Fail> {
 #[test]
 fn windows_reach_no_further_than_the_largest_place(rt: HostRuntime) -> Result<(), Fail> {
     let alloc = rt.alloc();
-    let columns = columns(alloc)?;
-    let cells = [cell(alloc, 1)?, None, cell(alloc, 3)?];
-    let row = PgRow::new(&columns, &cells);
+    let result = with_null(alloc)?;
+    let Some(row) = result.get_row(0) else {
+        panic!(rt; "no row");
+    };
     let window = row.partial_row(1..usize::MAX);
     assert!(rt; window.field_count() == 2);
     assert!(rt; window.get(usize::MAX).is_none() && window.idx(usize::MAX) == None);

@@ -1,4 +1,4 @@
-use crate::{PgType, Schema, SchemaError, TypeKey, TypeList};
+use pgw_meta::{PgType, Schema, SchemaError, TypeKey, TypeList};
 use pgw_wire::NoMemory;
 use std::alloc::Global;
 use std::test::Fail;
