@@ -1,6 +1,6 @@
 -- What a fault of a copy says of the run that met it.
-use Rattle.std.proofs.Common.{◌≡◌, ◌⊎◌, List, Option, Result, Ok, Err, IsOkAnd, refl, sym, ap, subst, inl, inr}
-use Rattle.std.specs.Prelude.{IsOk, IsErrAnd}
+use Rattle.std.proofs.Common.{◌≡◌, ◌⊎◌, Result, Ok, Err, IsOkAnd, refl, ap, inl, inr}
+use Rattle.std.specs.Prelude.{IsOk}
 use Rattle.std.specs.Result.{IsOkUnless}
 use Rattle.pgw_wire.specs.Outside.{SourceState, SinkState}
 use Rattle.pgw_wire.proofs.Taking.{took_none}
@@ -8,15 +8,10 @@ use Rattle.pgw_wire.proofs.Adding.{wrote_none}
 use Rattle.pgw_tree.specs.declared.fault.CopyFault.{CopyFault}
 use Rattle.pgw_tree.specs.declared.fault.CopyFault.TheVariants.{BadHeader, BadFlags, Truncated, BadFieldCount, UnexpectedEndOfRow, BadValue, TooLong, RowLimit, UnknownType, LookupFault, ReadFault, WriteFault, NoMemory}
 use Rattle.pgw_tree.specs.Causes.{no_memory_at_first}
-use Rattle.pgw_meta.specs.Known.{Known, LookupState}
-use Rattle.pgw_meta.specs.Needs.{NeededKey, needs_of}
-use Rattle.pgw_meta.specs.Shape.{Shape}
-use Rattle.pgw_tree.specs.ColumnTypes.{AreBuilt}
-use Rattle.pgw_tree.specs.Lookups.{AreMet, HasFailedAsked, IsLookupFault}
-use Rattle.pgw_tree.proofs.LookedUp.{no_needs, lookup_answer}
+use Rattle.pgw_tree.specs.Lookups.{IsLookupFault}
 use Rattle.pgcopy.specs.Words.{PlanData}
 use Rattle.pgcopy.specs.Runs.{MetFault}
-use Rattle.pgcopy.specs.declared.report.Status.TheVariants.{Refused as status_refused, UnknownType as status_unknown_type, NoMemory as status_no_memory}
+use Rattle.pgcopy.specs.declared.report.Status.TheVariants.{Refused as status_refused, NoMemory as status_no_memory}
 use Rattle.pgcopy.specs.Report.{fault_status}
 
 -- A value has what every value has.
@@ -35,10 +30,12 @@ status_at_fault r fault is h = ap fault_status (rw is at h)
 -- Where nothing was taken and nothing written, memory may be what was missing.
 pub no_memory_met : {S K : Type 0} (plan : PlanData) (source : SourceState S) (sink : SinkState K) → MetFault plan NoMemory source source sink sink
 no_memory_met plan source sink = record {
-  says = took_none (inl (no_memory_at_first refl refl, wrote_none sink));
+  says = took_none (inr (inl (no_memory_at_first refl refl, wrote_none sink)));
   at_end = λ e. absurd (cc);
   source_failed = λ e. absurd (cc);
   sink_failed = λ e. absurd (cc);
+  is_missing = λ key e. absurd (cc);
+  looked_up = λ e. absurd (cc);
 }
 
 -- A fault that is not the outside's refuses the stream, or memory was missing.
@@ -56,32 +53,3 @@ refused_at_fault LookupFault found read write reads writes = absurd (found tt)
 refused_at_fault ReadFault found read write reads writes = absurd (reads (read refl))
 refused_at_fault WriteFault found read write reads writes = absurd (writes (write refl))
 refused_at_fault NoMemory found read write reads writes = inr refl
-
--- A fault that is none of the lookup has not the status of a type that is not known.
-pub not_unknown : (fault : CopyFault) → (IsLookupFault fault → ⊥) → fault_status fault ≡ status_unknown_type → ⊥
-not_unknown BadHeader found is = absurd (cc)
-not_unknown (BadFlags flags) found is = absurd (cc)
-not_unknown Truncated found is = absurd (cc)
-not_unknown (BadFieldCount count) found is = absurd (cc)
-not_unknown (UnexpectedEndOfRow row) found is = absurd (cc)
-not_unknown (BadValue row column kind) found is = absurd (cc)
-not_unknown (TooLong row column) found is = absurd (cc)
-not_unknown RowLimit found is = absurd (cc)
-not_unknown (UnknownType key) found is = found tt
-not_unknown LookupFault found is = absurd (cc)
-not_unknown ReadFault found is = absurd (cc)
-not_unknown WriteFault found is = absurd (cc)
-not_unknown NoMemory found is = absurd (cc)
-
--- Columns whose rows are copied so far need nothing: each need is met, and no lookup is asked.
-pub met_nothing : (told : Option Known) (ts : List Shape) → AreBuilt ts → AreMet told (needs_of ts)
-met_nothing told ts built = subst (λ (ns : List NeededKey). AreMet told ns) (sym (no_needs ts built)) tt
-
-pub asked_nothing : (a b : LookupState) (ts : List Shape) → AreBuilt ts → HasFailedAsked (needs_of ts) a b → ⊥
-asked_nothing a b ts built failed = subst (λ (ns : List NeededKey). HasFailedAsked ns a b) (no_needs ts built) failed
-
--- So no fault is one of the lookup.
-pub no_lookup : {X : Type 0} (told : Option Known) (a b : LookupState) (ts : List Shape) (r : Result X CopyFault) (fault : CopyFault) → AreBuilt ts → r ≡ Err fault
-    → (AreMet told (needs_of ts) → (HasFailedAsked (needs_of ts) a b → ⊥) → IsErrAnd r IsLookupFault → ⊥) → IsLookupFault fault → ⊥
-no_lookup told a b ts r fault built is met lookup =
-    met (met_nothing told ts built) (asked_nothing a b ts built) (lookup_answer r fault is lookup)

@@ -1,13 +1,14 @@
 -- What some command lines ask for, computed from the definitions.
-use Rattle.std.proofs.Common.{◌≡◌, ℕ, List, [], ◌∷◌, ◌++◌, codes, Some, None, option_map, Result, Ok, Err, refl, ap, arith, inl}
-use Rattle.pgw_meta.specs.Shape.{scalar, int4, text, macaddr, macaddr8, nullable}
+use Rattle.std.proofs.Common.{◌≡◌, ℕ, List, [], ◌∷◌, ◌++◌, codes, Option, Some, None, option_map, Result, Ok, Err, refl, ap, arith, inl}
+use Rattle.pgw_meta.specs.Known.{Key}
+use Rattle.pgw_meta.specs.Shape.{Shape, scalar, int4, text, macaddr, macaddr8, nullable, array, named as named_type}
 use Rattle.pgw_meta.specs.declared.found_oids.Found.{Found}
 use Rattle.pgw_tree.specs.Limits.{default_limits}
 use Rattle.pgcopy.specs.declared.words.WordFault.{WordFault}
 use Rattle.pgcopy.specs.declared.words.WordFault.TheVariants.{NoCommand, UnknownCommand, BadNumber, Repeated, BadOid, NoTypes, NotYet}
 use Rattle.pgcopy.specs.OidWords.{SpellsEntry, entry_in}
 use Rattle.pgcopy.proofs.Entries.{none_twice}
-use Rattle.pgcopy.specs.Words.{named, type_of, PlanData, IsPlan, HasNoPlan, PlacedFault, IsFirstFault, word_fault, fault_between, plan_of_texts}
+use Rattle.pgcopy.specs.Words.{named, missing, type_of, PlanData, IsPlan, HasNoPlan, PlacedFault, IsFirstFault, word_fault, fault_between, plan_of_texts}
 use Rattle.pgcopy.proofs.Plans.{found_is_plan, plan_is_found, fault_no_plan, found_is_first}
 
 types_named : (type_of (codes "int4") ≡ Some (scalar int4)) × (type_of (codes "text?") ≡ Some (nullable (scalar text)))
@@ -60,6 +61,30 @@ told : (named (record { limits = default_limits; entries = entry (codes "public"
     × (named (record { limits = default_limits; entries = entry (codes "public") (codes "t") 1 2 ∷ []; columns = [] }) (record { schema = Some (codes "public"); name = codes "t" }) ≡ Some (record { oid = 1; array_oid = 2 }))
     × (named (record { limits = default_limits; entries = entry (codes "my") (codes "t") 1 2 ∷ []; columns = [] }) (record { schema = None; name = codes "t" }) ≡ None)
 told = (refl, refl, refl)
+
+-- a key, the shape of the arrays of its type, and what some entries and columns ask for
+abbrev key : Option (List ℕ) → List ℕ → Key
+key schema name = record { schema = schema; name = name }
+
+abbrev arrays_of : Key → Shape
+arrays_of k = array (named_type k (scalar text))
+
+abbrev asks : List Found → List Shape → PlanData
+asks entries columns = record { limits = default_limits; entries = entries; columns = columns }
+
+-- A column of a named type needs no oid, and one of its arrays the type's, which the entry of its name in its schema has.
+nothing_missing : (missing (asks [] (named_type (key None (codes "t")) (scalar text) ∷ scalar int4 ∷ [])) ≡ None)
+    × (missing (asks (entry (codes "public") (codes "t") 1 0 ∷ []) (arrays_of (key None (codes "t")) ∷ [])) ≡ None)
+    × (missing (asks (entry (codes "my") (codes "t") 1 2 ∷ []) (arrays_of (key (Some (codes "my")) (codes "t")) ∷ [])) ≡ None)
+nothing_missing = (refl, refl, refl)
+
+-- It is missing without an entry, where that stands in another schema, and where its oid is 0. Of two the first counts, in
+-- the order of the columns.
+first_missing : (missing (asks [] (arrays_of (key None (codes "t")) ∷ [])) ≡ Some (key None (codes "t")))
+    × (missing (asks (entry (codes "my") (codes "t") 1 2 ∷ []) (arrays_of (key None (codes "t")) ∷ [])) ≡ Some (key None (codes "t")))
+    × (missing (asks (entry (codes "public") (codes "t") 0 2 ∷ []) (arrays_of (key None (codes "t")) ∷ [])) ≡ Some (key None (codes "t")))
+    × (missing (asks (entry (codes "public") (codes "t") 1 2 ∷ []) (arrays_of (key None (codes "t")) ∷ arrays_of (key None (codes "v")) ∷ arrays_of (key None (codes "u")) ∷ [])) ≡ Some (key None (codes "v")))
+first_missing = (refl, refl, refl, refl)
 
 -- words without options
 types_alone : IsPlan (codes "copy" ∷ codes "int4" ∷ codes "text?" ∷ []) (record { limits = default_limits; entries = []; columns = scalar int4 ∷ nullable (scalar text) ∷ [] })

@@ -1,11 +1,13 @@
 -- What a writer that was lent gained, and what a sink over it tells, which keeps a buffer in front of it.
-use Rattle.std.specs.Prelude.{◌≡◌, ℕ, ◌-◌, Bool, true, false, List, [], ◌∷◌, ◌++◌, length, Option, IfSome, option_map}
+use Rattle.std.specs.Prelude.{◌≡◌, ◌≢◌, ℕ, ◌-◌, Bool, true, false, List, [], ◌∷◌, ◌++◌, length, Option, Some, IfSome, option_map}
 use Rattle.std.specs.Io.KnownBytes.{Appends}
 use Rattle.pgw_tree.specs.declared.fault.CopyFault.{CopyFault}
-use Rattle.pgw_tree.specs.declared.fault.CopyFault.TheVariants.{Truncated}
+use Rattle.pgw_tree.specs.declared.fault.CopyFault.TheVariants.{Truncated, UnknownType, LookupFault}
 use Rattle.pgw_tree.specs.Canonical.{canonical_front}
-use Rattle.pgw_tree.specs.Causes.{IsCopied, fault_says}
-use Rattle.pgcopy.specs.Words.{PlanData}
+use Rattle.pgw_tree.specs.Causes.{IsCopied, copy_says}
+use Rattle.pgw_meta.specs.Keys.{owned_key}
+use Rattle.pgw_meta.specs.declared.key.TypeKey.{TypeKey}
+use Rattle.pgcopy.specs.Words.{PlanData, missing}
 use Rattle.pgcopy.specs.declared.report.Outcome.TheVariants.{Copied, Fault}
 use Rattle.pgcopy.specs.Report.{line_of}
 
@@ -38,12 +40,15 @@ pub record CopiedOut (plan : PlanData) (n : ℕ) (input output output_now errors
   pub line : GotFront errors errors_now (line_of (Copied n))
 
 -- What a fault says of what the input began with, and of the bytes of which the output got a front; and a front of the
--- line went to the errors. A truncated stream is all that the input had.
+-- line went to the errors. A truncated stream is all that the input had, and a type that is not known is the first that
+-- is missing. No lookup fails.
 pub record StoppedOut (plan : PlanData) (fault : CopyFault)
     (input output output_now errors errors_now : Option (List ℕ)) : Type 0 where
   pub taken : List ℕ
   pub rest : List ℕ
   pub began : IfSome input (λ bytes. bytes ≡ taken ++ rest)
   pub at_end : fault ≡ Truncated → IfSome input (λ _. rest ≡ [])
-  pub says : fault_says plan.limits plan.columns (canonical_front plan.columns) fault (GotFront output output_now) taken
+  pub says : copy_says plan.limits plan.columns (canonical_front plan.columns) fault (GotFront output output_now) taken
+  pub is_missing : (key : TypeKey) → fault ≡ UnknownType key → missing plan ≡ Some (owned_key key)
+  pub looked_up : fault ≢ LookupFault
   pub line : GotFront errors errors_now (line_of (Fault fault))

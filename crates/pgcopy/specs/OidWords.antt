@@ -1,10 +1,11 @@
 -- The oids that a word gives a type: `oid=`, and behind it `[schema.]name:OID:ARRAYOID`.
-use Rattle.std.specs.Prelude.{ℕ, ◌≡◌, ◌==◌, ◌&&◌, ◌||◌, ◌⊎◌, List, [], ◌∷◌, ◌++◌, length, codes, Bool, true, nat_lt, nat_le, Option, None, Some, option_map, if◌then◌else◌}
+use Rattle.std.specs.Prelude.{ℕ, ◌≡◌, ◌==◌, ◌&&◌, ◌||◌, ◌⊎◌, List, [], ◌∷◌, ◌++◌, length, codes, Bool, true, nat_lt, nat_le, Option, None, Some, option_map, map, IsSome, if◌then◌else◌}
 use Rattle.std.specs.Char.{is_ascii_alphanumeric}
-use Rattle.std.specs.List.{list_all}
+use Rattle.std.specs.List.{list_all, AllByRecursion, IsDistinct}
 use Rattle.std.specs.Option.{unwrap_or, option_and_then}
 use Rattle.pgw_meta.specs.Known.{Key}
 use Rattle.pgw_meta.specs.Keys.{owned_key}
+use Rattle.pgw_meta.specs.Needs.{is_same_key}
 use Rattle.pgw_meta.specs.declared.found_oids.Found.{Found}
 use Rattle.pgcopy.specs.Numbers.{read_number}
 use Rattle.pgcopy.specs.declared.oid_words.GivenOids.{GivenOids}
@@ -76,6 +77,11 @@ schema_of key = unwrap_or key.schema searched_schema
 -- the key of an entry
 abbrev pub entry_key : Found → Key
 entry_key entry = owned_key entry.key
+
+-- These may be the entries of a catalog: each key says its schema, and no two keys are the same.
+pub record AreEntries (entries : List Found) : Type 0 where
+  pub placed : AllByRecursion (λ (entry : Found). IsSome entry.key.schema) entries
+  pub once : IsDistinct is_same_key (map entry_key entries)
 
 -- the entry of the oids that a word gives
 abbrev pub given_entry : GivenOids → Found

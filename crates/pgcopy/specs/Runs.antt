@@ -1,12 +1,14 @@
 -- What a run of the command `copy` leaves in its source and its sink.
-use Rattle.std.specs.Prelude.{◌≡◌, ℕ}
+use Rattle.std.specs.Prelude.{◌≡◌, ◌≢◌, ℕ, Some}
 use Rattle.std.specs.Io.KnownBytes.{IsAtEnd}
 use Rattle.pgw_wire.specs.Outside.{SourceState, SinkState, left, HasFailed, Took, Wrote, Settled}
 use Rattle.pgw_tree.specs.declared.fault.CopyFault.{CopyFault}
-use Rattle.pgw_tree.specs.declared.fault.CopyFault.TheVariants.{Truncated, ReadFault, WriteFault}
+use Rattle.pgw_tree.specs.declared.fault.CopyFault.TheVariants.{Truncated, UnknownType, LookupFault, ReadFault, WriteFault}
 use Rattle.pgw_tree.specs.Canonical.{canonical_front}
-use Rattle.pgw_tree.specs.Causes.{IsCopied, fault_says}
-use Rattle.pgcopy.specs.Words.{PlanData}
+use Rattle.pgw_tree.specs.Causes.{IsCopied, copy_says}
+use Rattle.pgw_meta.specs.Keys.{owned_key}
+use Rattle.pgw_meta.specs.declared.key.TypeKey.{TypeKey}
+use Rattle.pgcopy.specs.Words.{PlanData, missing}
 
 -- The bytes taken are one stream of so many rows of the plan, and the bytes written are the canonical stream of these
 -- rows, which is settled.
@@ -16,11 +18,14 @@ CopiedRows plan n source source_now sink sink_now =
     Took source source_now (IsCopied plan.limits plan.columns (canonical_front plan.columns) n (Settled sink sink_now))
 
 -- What a fault says of the bytes that were taken and of those that were written. A truncated stream was read to its
--- end, and a fault of the source or of the sink comes only where that failed.
+-- end, and a fault of the source or of the sink comes only where that failed. A type that is not known is the first that
+-- is missing, and no lookup fails.
 pub record MetFault {S K : Type 0} (plan : PlanData) (fault : CopyFault) (source source_now : SourceState S)
     (sink sink_now : SinkState K) : Type 0 where
   pub says : Took source source_now
-      (fault_says plan.limits plan.columns (canonical_front plan.columns) fault (Wrote sink sink_now))
+      (copy_says plan.limits plan.columns (canonical_front plan.columns) fault (Wrote sink sink_now))
   pub at_end : fault ≡ Truncated → IsAtEnd (left source_now)
   pub source_failed : fault ≡ ReadFault → HasFailed source source_now
   pub sink_failed : fault ≡ WriteFault → HasFailed sink sink_now
+  pub is_missing : (key : TypeKey) → fault ≡ UnknownType key → missing plan ≡ Some (owned_key key)
+  pub looked_up : fault ≢ LookupFault

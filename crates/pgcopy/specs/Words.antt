@@ -7,12 +7,13 @@ use Rattle.std.specs.Result.{result_err}
 use Rattle.std.specs.Str.{bytes_eq}
 use Rattle.std.specs.Str.Parse.{digits_value}
 use Rattle.pgw_meta.specs.Shape.{Shape, scalar, nullable, bool, char, int2, int4, int8, oid, text, bytea, uuid, money, pg_lsn, macaddr, macaddr8, inet, cidr, date, time, timestamp, timestamptz, interval, numeric}
-use Rattle.pgw_meta.specs.Known.{Known}
-use Rattle.pgw_meta.specs.Needs.{is_same_key}
+use Rattle.pgw_meta.specs.Known.{Key, Known}
+use Rattle.pgw_meta.specs.Needs.{is_same_key, needs_of}
 use Rattle.pgw_meta.specs.NamedOids.{known_of}
 use Rattle.pgw_meta.specs.Catalog.{in_schema}
 use Rattle.pgw_meta.specs.declared.found_oids.Found.{Found}
 use Rattle.pgw_tree.specs.Limits.{Limits, default_limits}
+use Rattle.pgw_tree.specs.Lookups.{first_unmet}
 use Rattle.pgcopy.specs.Numbers.{is_number}
 use Rattle.pgcopy.specs.OidWords.{SpellsEntry, entry_in, schema_of, entry_key}
 use Rattle.pgcopy.specs.declared.words.WordFault.{WordFault}
@@ -95,6 +96,10 @@ HasNoPlan words = (plan : PlanData) → IsPlan words plan → ⊥
 -- What the entries of a plan tell of a key: the oids of its name in its schema, which is `public` where it has none.
 abbrev pub named : PlanData → Known
 named plan key = known_of plan.entries (in_schema (schema_of key) key.name)
+
+-- The key of the first type of which the columns of a plan need an oid that its entries do not give, or give as 0.
+abbrev pub missing : PlanData → Option Key
+missing plan = first_unmet (named plan) (needs_of plan.columns)
 
 -- the entry of a word, where it is an option `oid=` and spells one
 abbrev pub entry_of : List ℕ → Option Found

@@ -1,9 +1,11 @@
--- What the program keeps of the words that it has read.
+-- What the program keeps of the words that it has read, and of a plan.
 use Rattle.std.specs.Prelude.{◌≡◌, ℕ, ◌≤◌, ◌==◌, List, length, codes, option_map, IfSome}
 use Rattle.std.specs.List.{filter_map, list_all}
 use Rattle.std.specs.Str.Parse.{digits_value}
+use Rattle.pgw_meta.specs.Types.{column_shapes}
+use Rattle.pgcopy.specs.declared.words.Plan.{Plan}
 use Rattle.pgcopy.specs.declared.words.WordsRead.{WordsRead}
-use Rattle.pgcopy.specs.Words.{type_of, is_option, digits_in}
+use Rattle.pgcopy.specs.Words.{type_of, is_option, digits_in, PlanData}
 
 -- the numbers of the options among these words, and how many types they have
 pub record AreRead (seen : WordsRead) (words : List (List ℕ)) : Type 0 where
@@ -12,3 +14,7 @@ pub record AreRead (seen : WordsRead) (words : List (List ℕ)) : Type 0 where
   pub field_fits : IfSome seen.field (λ n. n ≤ 2147483647)
   pub types : seen.types ≡ length (filter_map type_of words)
   pub begun : (seen.types == 0) ≡ list_all is_option words
+
+-- what a plan asks for
+abbrev pub plan_data : Plan → PlanData
+plan_data plan = record { limits = plan.limits; entries = plan.entries; columns = column_shapes plan.schema }

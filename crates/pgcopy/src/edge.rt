@@ -1,11 +1,12 @@
-ghost use Rattle.std.specs.Prelude.{◌≡◌, ◌≢◌, ◌↔◌, ◌⊎◌, List, [], ℕ, Some, IfOk, IfErr, true};
+ghost use Rattle.std.specs.Prelude.{◌≡◌, ◌≢◌, ◌↔◌, ◌⊎◌, List, [], ◌++◌, codes, ℕ, Some, None, IfOk, IfErr, true};
 ghost use Rattle.pgw_wire.specs.Outside.{HasFront};
+ghost use Rattle.pgw_meta.specs.Known.{Key};
 ghost use Rattle.pgw_tree.specs.Stream.{IsValidStream};
 ghost use Rattle.std.specs.Io.{ReadsAtMost};
 ghost use Rattle.std.specs.Io.KnownBytes.{Appends, ReadConsumes};
 ghost use Rattle.std.specs.IoError.{error_kind};
-ghost use Rattle.pgcopy.specs.Words.{texts, PlanData, IsPlan, HasNoPlan, PlacedFault, IsFirstFault};
-ghost use Rattle.pgcopy.specs.Report.{line_of, fault_status};
+ghost use Rattle.pgcopy.specs.Words.{texts, PlanData, IsPlan, HasNoPlan, PlacedFault, IsFirstFault, missing};
+ghost use Rattle.pgcopy.specs.Report.{line_of, unknown_text, fault_status};
 ghost use Rattle.pgcopy.specs.Lent.{GotFront, CopiedOut, StoppedOut};
 
 use crate::lent::{FinalSink, LentWriter};
@@ -101,10 +102,20 @@ pub fn copy<I: Read + Drop, O: Write, E: Write>(
         → (plan : PlanData) × IsPlan (texts words.now) plan × (fault : CopyFault) × (status ≡ fault_status fault)
         × StoppedOut plan fault (I.remaining input) (O.contents output.old) (O.contents output.new)
         (E.contents errors.old) (E.contents errors.new)) }
-    ensures complete { IfOk result (λ status. (plan : PlanData) → IsPlan (texts words.now) plan
+
+    // Status 4 comes exactly where the columns need an oid that the words do not give, unless memory runs out. Its line
+    // names the first type of such an oid, and the output gets nothing.
+    ensures unknown_type { IfOk result (λ status. status ≡ Status.UnknownType
+        → (plan : PlanData) × IsPlan (texts words.now) plan × (key : Key) × (missing plan ≡ Some key)
+        × GotFront (E.contents errors.old) (E.contents errors.new) (unknown_text key ++ codes "\n")) }
+    ensures unwritten { IfOk result (λ status. status ≡ Status.UnknownType
+        → Appends (O.contents output.old) (O.contents output.new) []) }
+    ensures unmet { IfOk result (λ status. (plan : PlanData) (key : Key) → IsPlan (texts words.now) plan
+        → missing plan ≡ Some key → (status ≡ Status.UnknownType) ⊎ (status ≡ Status.NoMemory)) }
+
+    ensures complete { IfOk result (λ status. (plan : PlanData) → IsPlan (texts words.now) plan → missing plan ≡ None
         → HasFront (I.remaining input) (IsValidStream plan.limits plan.columns)
         → (status ≡ Status.Copied) ⊎ (status ≡ Status.Outside) ⊎ (status ≡ Status.NoMemory)) }
-    ensures known { IfOk result (λ status. status ≢ Status.UnknownType) }
     ensures no_memory { IfErr result (λ e. error_kind e ≡ ErrorKind.OutOfMemory) }
 {
     let reader = BufReader::with_capacity(alloc, INPUT, Retrying { inner: input })?;

@@ -3,6 +3,7 @@
 #![tactic(auto)]
 
 mod about;
+mod catalog;
 mod edge;
 #[cfg(test)]
 mod edge_tests;

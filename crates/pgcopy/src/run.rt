@@ -1,16 +1,56 @@
-ghost use Rattle.std.specs.Prelude.{◌≡◌, ◌≢◌, ◌≤◌, ◌↔◌, ◌⊎◌, ⊤, ℕ, true, option_map, IfOk, IfErr, IsErr, IsOkAnd};
+ghost use Rattle.std.specs.Prelude.{◌≡◌, ◌≢◌, ◌≤◌, ◌↔◌, ◌⊎◌, ⊤, ℕ, ◌++◌, codes, Err, Some, None, true, option_map, IfOk, IfErr, IsErr, IsOkAnd, IsOkUnless, OnOk};
 ghost use Rattle.pgw_wire.specs.Outside.{left, settled, HasFailed, Took, HasFront, HasNoFront, Gains};
+ghost use Rattle.pgw_meta.specs.Known.{Key};
+ghost use Rattle.pgw_meta.specs.Types.{column_shapes};
+ghost use Rattle.pgw_tree.specs.ColumnTypes.{AreBuilt};
+ghost use Rattle.pgw_tree.specs.Lookups.{IsUnknownType};
 ghost use Rattle.pgw_tree.specs.Stream.{IsValidStream};
-ghost use Rattle.pgcopy.specs.Words.{texts, PlanData, IsPlan, HasNoPlan, PlacedFault, IsFirstFault, plan_of};
+ghost use Rattle.pgcopy.specs.OidWords.{AreEntries};
+ghost use Rattle.pgcopy.specs.Words.{texts, PlanData, IsPlan, HasNoPlan, PlacedFault, IsFirstFault, plan_of, missing};
+ghost use Rattle.pgcopy.specs.WordsRead.{plan_data};
 ghost use Rattle.pgcopy.specs.Runs.{CopiedRows, MetFault};
-ghost use Rattle.pgcopy.specs.Report.{line_of, fault_status, status_of, WroteUnlessFailed};
+ghost use Rattle.pgcopy.specs.Report.{line_of, unknown_text, fault_status, status_of, WroteUnlessFailed};
 
+use crate::catalog::catalog_of;
 use crate::report::{Outcome, Status, report};
-use crate::words::{WordError, read_words};
-use pgw_meta::Dummy;
-use pgw_tree::{CopyFault, recopy};
+use crate::words::{Plan, WordError, read_words};
+use pgw_meta::CachedLookup;
+use pgw_tree::{Copied, CopyFault, recopy};
 use pgw_wire::{Sink, Source};
 use std::alloc::Global;
+
+/// Copies what a plan asks for. Oids are looked up among its entries.
+fn copy_plan<S: Source, K: Sink>(
+    alloc: Global,
+    plan: &Plan,
+    source: &mut S,
+    sink: &mut K,
+) -> Result<Copied, CopyFault>
+    requires built { AreBuilt (column_shapes plan.now.schema) }
+    requires entries { AreEntries plan.now.entries }
+    ensures copied { IfOk result (λ copied. CopiedRows (plan_data plan.now) copied.rows
+        (S.state source.old) (S.state source.new) (K.state sink.old) (K.state sink.new)) }
+    ensures settled { OnOk result (settled (K.state sink.new) ≡ option_map (λ _. true) (settled (K.state sink.old))) }
+    ensures fault { (fault : CopyFault) → result ≡ Err fault → MetFault (plan_data plan.now) fault
+        (S.state source.old) (S.state source.new) (K.state sink.old) (K.state sink.new) }
+    ensures unmet { (key : Key) → missing (plan_data plan.now) ≡ Some key
+        → IsUnknownType result key ⊎ (result ≡ Err CopyFault.NoMemory) }
+    ensures untouched { (key : _) → result ≡ Err (CopyFault.UnknownType key)
+        → (source.new ≡ source.old) × (sink.new ≡ sink.old) }
+    ensures complete { missing (plan_data plan.now) ≡ None
+        → HasFront (left (S.state source.old)) (IsValidStream plan.now.limits (column_shapes plan.now.schema))
+        → ¬ HasFailed (S.state source.old) (S.state source.new)
+        → ¬ HasFailed (K.state sink.old) (K.state sink.new)
+        → IsOkUnless result CopyFault.NoMemory }
+    ensures refused { HasNoFront (left (S.state source.old)) (IsValidStream plan.now.limits (column_shapes plan.now.schema))
+        → IsErr result }
+    ensures taken { Took (S.state source.old) (S.state source.new) (λ _. ⊤) }
+    ensures gained { Gains (K.state sink.old) (K.state sink.new) }
+{
+    let catalog = catalog_of(alloc, plan.entries.as_slice())?;
+    let mut lookup = CachedLookup::new(alloc, catalog);
+    recopy(alloc, &plan.schema, &mut lookup, source, sink, plan.limits)
+}
 
 /// Executes the command of the words, and answers what came of it.
 fn execute<S: Source, K: Sink>(
@@ -32,15 +72,18 @@ fn execute<S: Source, K: Sink>(
     ensures fault { status_of result ≢ Status.Copied → status_of result ≢ Status.Words
         → IsOkAnd (plan_of words.now) (λ plan. (fault : CopyFault) × (result ≡ Outcome.Fault fault)
         × MetFault plan fault (S.state source.old) (S.state source.new) (K.state sink.old) (K.state sink.new)) }
-    ensures known { status_of result ≢ Status.UnknownType }
+    ensures unread { status_of result ≡ Status.UnknownType → source.new ≡ source.old }
+    ensures unwritten { status_of result ≡ Status.UnknownType → sink.new ≡ sink.old }
+    ensures unmet { IfOk (plan_of words.now) (λ plan. (key : Key) → missing plan ≡ Some key
+        → (status_of result ≡ Status.UnknownType) ⊎ (status_of result ≡ Status.NoMemory)) }
 
-    ensures complete { IfOk (plan_of words.now) (λ plan.
-        HasFront (left (S.state source.old)) (IsValidStream plan.limits plan.columns)
+    ensures complete { IfOk (plan_of words.now) (λ plan. missing plan ≡ None
+        → HasFront (left (S.state source.old)) (IsValidStream plan.limits plan.columns)
         → ¬ HasFailed (S.state source.old) (S.state source.new)
         → ¬ HasFailed (K.state sink.old) (K.state sink.new)
         → (status_of result ≡ Status.Copied) ⊎ (status_of result ≡ Status.NoMemory)) }
-    ensures refused { IfOk (plan_of words.now) (λ plan.
-        HasNoFront (left (S.state source.old)) (IsValidStream plan.limits plan.columns)
+    ensures refused { IfOk (plan_of words.now) (λ plan. missing plan ≡ None
+        → HasNoFront (left (S.state source.old)) (IsValidStream plan.limits plan.columns)
         → ¬ HasFailed (S.state source.old) (S.state source.new)
         → ¬ HasFailed (K.state sink.old) (K.state sink.new)
         → (status_of result ≡ Status.Refused) ⊎ (status_of result ≡ Status.NoMemory)) }
@@ -49,7 +92,7 @@ fn execute<S: Source, K: Sink>(
     ensures gained { Gains (K.state sink.old) (K.state sink.new) }
 {
     match read_words(alloc, words) {
-        Ok(plan) => match recopy(alloc, &plan.schema, &mut Dummy, source, sink, plan.limits) {
+        Ok(plan) => match copy_plan(alloc, &plan, source, sink) {
             Ok(copied) => Outcome::Copied(copied.rows),
             Err(fault) => Outcome::Fault(fault),
         },
@@ -62,7 +105,8 @@ fn execute<S: Source, K: Sink>(
 ///
 /// The command `copy`, options and column types copy a stream of rows of these columns, as PostgreSQL's
 /// `COPY .. (FORMAT binary)` has it, from the source to the sink. `rows=` limits how many rows the stream has, and
-/// `field=` how many bytes the canonical form of a field has; `oid=` gives the oids of a type, which no column needs yet.
+/// `field=` how many bytes the canonical form of a field has; `oid=` gives the oids of a type, which are looked up where
+/// columns need them.
 ///
 /// | status | cause | line |
 /// |---|---|---|
@@ -77,7 +121,7 @@ fn execute<S: Source, K: Sink>(
 /// | `Refused` | a value is longer than the limit | `row`, `column`, and `too long` |
 /// | `Refused` | as many rows as the limit were copied, and the count of another one is there | `row limit` |
 /// | `Outside` | the source or the sink failed | `read fault` or `write fault` |
-/// | `UnknownType` | does not come yet | |
+/// | `UnknownType` | a column needs an oid of a named type, and `oid=` gives none, or 0; nothing was read or written | `unknown type` and the type's key |
 /// | `NoMemory` | memory was asked for and refused | `out of memory` |
 ///
 /// Rows and columns are counted from 0. A fault of the header comes before anything is written; behind the header the
@@ -114,15 +158,25 @@ pub fn run<S: Source, K: Sink, N: Sink>(
         → (plan : PlanData) × IsPlan (texts words.now) plan × (fault : CopyFault) × (result ≡ fault_status fault)
         × WroteUnlessFailed (N.state notes.old) (N.state notes.new) (line_of (Outcome.Fault fault))
         × MetFault plan fault (S.state source.old) (S.state source.new) (K.state sink.old) (K.state sink.new) }
-    ensures known { result ≢ Status.UnknownType }
 
-    // A valid stream is copied, and what begins with none is refused, unless memory runs out or an object outside failed.
-    ensures complete { (plan : PlanData) → IsPlan (texts words.now) plan
+    // Status 4 comes exactly where the columns need an oid that the words do not give, unless memory runs out. Its line
+    // names the first type of such an oid, and nothing is read or written.
+    ensures unknown_type { result ≡ Status.UnknownType
+        → (plan : PlanData) × IsPlan (texts words.now) plan × (key : Key) × (missing plan ≡ Some key)
+        × WroteUnlessFailed (N.state notes.old) (N.state notes.new) (unknown_text key ++ codes "\n") }
+    ensures unread { result ≡ Status.UnknownType → source.new ≡ source.old }
+    ensures unwritten { result ≡ Status.UnknownType → sink.new ≡ sink.old }
+    ensures unmet { (plan : PlanData) (key : Key) → IsPlan (texts words.now) plan → missing plan ≡ Some key
+        → (result ≡ Status.UnknownType) ⊎ (result ≡ Status.NoMemory) }
+
+    // Where no oid is missing, a valid stream is copied, and what begins with none is refused, unless memory runs out or an
+    // object outside failed.
+    ensures complete { (plan : PlanData) → IsPlan (texts words.now) plan → missing plan ≡ None
         → HasFront (left (S.state source.old)) (IsValidStream plan.limits plan.columns)
         → ¬ HasFailed (S.state source.old) (S.state source.new)
         → ¬ HasFailed (K.state sink.old) (K.state sink.new)
         → (result ≡ Status.Copied) ⊎ (result ≡ Status.NoMemory) }
-    ensures refused { (plan : PlanData) → IsPlan (texts words.now) plan
+    ensures refused { (plan : PlanData) → IsPlan (texts words.now) plan → missing plan ≡ None
         → HasNoFront (left (S.state source.old)) (IsValidStream plan.limits plan.columns)
         → ¬ HasFailed (S.state source.old) (S.state source.new)
         → ¬ HasFailed (K.state sink.old) (K.state sink.new)

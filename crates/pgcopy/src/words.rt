@@ -10,7 +10,7 @@ ghost use Rattle.pgw_tree.specs.ColumnTypes.{AreBuilt};
 ghost use Rattle.pgw_tree.specs.Limits.{default_limits};
 ghost use Rattle.pgcopy.specs.OidWords.{given_entry};
 ghost use Rattle.pgcopy.specs.Words.{type_names, look_up, type_of, behind, is_option, entry_of, number_of, option_fault, word_fault, first_fault, PlanData, IsPlan, HasNoPlan, PlacedFault, IsFirstFault, plan_of, texts};
-ghost use Rattle.pgcopy.specs.WordsRead.{AreRead};
+ghost use Rattle.pgcopy.specs.WordsRead.{AreRead, plan_data};
 
 use crate::numbers::read_number;
 use crate::oid_words::{GivenOids, given_oids};
@@ -363,10 +363,8 @@ fn limits_from(seen: WordsRead) -> Limits
 /// Memory is asked for only where there is a plan.
 #[tactic(auto, using(crate::proofs::Plans::found_is_plan, crate::proofs::Plans::found_is_first))]
 pub fn read_words(alloc: Global, words: &[String]) -> Result<Plan, WordError>
-    ensures plan { IfOk result (λ plan. plan_of words.now
-        ≡ Ok (record { limits = plan.limits; entries = plan.entries; columns = column_shapes plan.schema })) }
-    ensures is_plan { IfOk result (λ plan. IsPlan (map string_bytes words.now)
-        (record { limits = plan.limits; entries = plan.entries; columns = column_shapes plan.schema })) }
+    ensures plan { IfOk result (λ plan. plan_of words.now ≡ Ok (plan_data plan)) }
+    ensures is_plan { IfOk result (λ plan. IsPlan (map string_bytes words.now) (plan_data plan)) }
     ensures built { IfOk result (λ plan. AreBuilt (column_shapes plan.schema)) }
     ensures fault { (place : _) (fault : _) → result ≡ Err (WordError.Fault place fault)
         → plan_of words.now ≡ Err (record { place = place; fault = fault }) }

@@ -11,8 +11,10 @@ use Rattle.pgw_tree.proofs.Excluded.{excluded}
 use Rattle.pgcopy.specs.declared.report.Status.{Status}
 use Rattle.pgcopy.specs.declared.report.Status.TheVariants.{Copied as status_copied, Words as status_words, Refused as status_refused, Outside as status_outside, UnknownType as status_unknown_type, NoMemory as status_no_memory}
 use Rattle.pgcopy.specs.Report.{fault_status}
-use Rattle.pgcopy.specs.Words.{texts, PlanData}
+use Rattle.pgcopy.specs.Words.{texts, PlanData, missing}
 use Rattle.pgcopy.specs.Runs.{MetFault}
+use Rattle.pgw_tree.proofs.LookedUp.{says_of_stream}
+use Rattle.pgcopy.proofs.Looked.{no_lookup}
 use Rattle.pgcopy.proofs.Plans.{plan_once}
 use Rattle.std.specs.Io.Buffered.{writer_inner, writer_buffer}
 use Rattle.pgcopy.proofs.Reached.{arrives, got_none, appends_none, told_of, line_got, copied_out, stopped_out}
@@ -50,18 +52,18 @@ by_status status_unknown_type P plan fault = inr (fault (λ e. absurd (cc)) (λ 
 by_status status_no_memory P plan fault = inr (fault (λ e. absurd (cc)) (λ e. absurd (cc)))
 
 -- Where a fault came and a valid stream was there, the fault is one of the outside, or memory was missing.
-at_fault : {S K : Type 0} (status : Status) (a b : SourceState S) (before now : SinkState K) (plan : PlanData) (fault : CopyFault) (front rest : List ℕ) → status ≡ fault_status fault → MetFault plan fault a b before now
+at_fault : {S K : Type 0} (status : Status) (a b : SourceState S) (before now : SinkState K) (plan : PlanData) (fault : CopyFault) (front rest : List ℕ) → missing plan ≡ None → status ≡ fault_status fault → MetFault plan fault a b before now
     → left a ≡ Some (front ++ rest) → IsValidStream plan.limits plan.columns front → (status ≡ status_outside) ⊎ (status ≡ status_no_memory)
-at_fault status a b before now plan fault front rest is met begins valid =
+at_fault status a b before now plan fault front rest none is met begins valid =
     let t = took_from a b _ met.says (front ++ rest) begins in
     subst (λ (s : Status). (s ≡ status_outside) ⊎ (s ≡ status_no_memory)) (sym is)
-    (outside_status fault (excluded plan.limits plan.columns (canonical_front plan.columns) fault (Wrote before now) t.taken t.rest front rest t.has (λ e. ended (left b) t.rest (met.at_end e) t.now_is) valid (sym t.left_is)))
+    (outside_status fault (excluded plan.limits plan.columns (canonical_front plan.columns) fault (Wrote before now) t.taken t.rest front rest (says_of_stream (no_lookup plan fault met none) t.has) (λ e. ended (left b) t.rest (met.at_end e) t.now_is) valid (sym t.left_is)))
 
 pub returns-clause-complete : goal.returns-clause-complete
-returns-clause-complete g c = λ plan is valid.
+returns-clause-complete g c = λ plan is none valid.
     by_status c.run-status.result _ (λ e. c.run-status.ensures.words.0 e plan is) (λ not_copied not_words.
     let f = c.run-status.ensures.fault not_copied not_words in
-    at_fault c.run-status.result _ _ _ _ f.0 f.2 valid.front valid.rest f.3 f.5
+    at_fault c.run-status.result _ _ _ _ f.0 f.2 valid.front valid.rest (subst (λ (p : PlanData). missing p ≡ None) (plan_once (texts c.args.words.now) plan f.0 is f.1) none) f.3 f.5
     (c.new-source.ensures.left ∙ fresh _ _ _ _ c.in_ok-reader.ensures.capacity c.in_ok-reader.ensures.empty (ap (λ i. g.I.Read.remaining i.inner) c.in_ok-reader.ensures.inner ∙ valid.is))
     (subst (λ (p : PlanData). IsValidStream p.limits p.columns valid.front) (plan_once (texts c.args.words.now) plan f.0 is f.1) valid.has))
 
@@ -100,3 +102,17 @@ returns-clause-fault g c = λ not_copied not_words.
           h.5
           (line_got _ (λ x w. (arrives g.E.Write.contents c.new-notes.result c.run-status.new.notes _ c.finish-errors.result _ (ap (λ w. writer_inner w) c.new-notes.ensures.inner ∙ c.in_ok-line.ensures.inner) (ap (λ w. writer_buffer w) c.new-notes.ensures.inner ∙ c.in_ok-line.ensures.empty) c.new-notes.ensures.flushed refl c.finish-errors.ensures (search) x w).0) h.4),
     )
+
+pub returns-clause-unknown_type : goal.returns-clause-unknown_type
+returns-clause-unknown_type g c = λ unknown.
+    let h = c.run-status.ensures.unknown_type unknown in (
+      h.0,
+      h.1,
+      h.2,
+      h.3,
+      line_got _ (λ x w. (arrives g.E.Write.contents c.new-notes.result c.run-status.new.notes _ c.finish-errors.result _ (ap (λ w. writer_inner w) c.new-notes.ensures.inner ∙ c.in_ok-line.ensures.inner) (ap (λ w. writer_buffer w) c.new-notes.ensures.inner ∙ c.in_ok-line.ensures.empty) c.new-notes.ensures.flushed refl c.finish-errors.ensures (search) x w).0) h.4,
+    )
+
+pub returns-clause-unwritten : goal.returns-clause-unwritten
+returns-clause-unwritten g c = λ unknown.
+    got_none (arrives g.O.Write.contents c.new-sink.result c.run-status.new.sink _ c.finish-output.result _ (ap (λ w. writer_inner w) c.new-sink.ensures.inner ∙ c.in_ok-writer.ensures.inner) (ap (λ w. writer_buffer w) c.new-sink.ensures.inner ∙ c.in_ok-writer.ensures.empty) c.new-sink.ensures.flushed refl c.finish-output.ensures (search) [] (appends_none _ _ (ap (told_of g.O.Write.contents) (c.run-status.ensures.unwritten unknown)))).0

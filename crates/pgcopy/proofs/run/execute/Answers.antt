@@ -1,45 +1,48 @@
-use Rattle.std.proofs.Common.{Err, refl, ap, ◌∙◌, inr}
+use Rattle.std.proofs.Common.{Err, refl, ap, ◌∙◌, inr, map, string_bytes}
 use Rattle.std.proofs.lemmas.Bool.{false≢true}
 use Rattle.pgw_tree.specs.declared.fault.CopyFault.TheVariants.{NoMemory}
-use Rattle.pgw_wire.proofs.Taking.{took_weaker}
-use Rattle.pgw_tree.proofs.LookedUp.{says_of_stream}
-use Rattle.pgcopy.proofs.Told.{ok_and, status_at_fault, refused_at_fault, no_memory_met, met_nothing, asked_nothing, no_lookup, not_unknown}
+use Rattle.pgcopy.specs.WordsRead.{plan_data}
+use Rattle.pgcopy.proofs.Told.{ok_and, status_at_fault, refused_at_fault, no_memory_met}
+use Rattle.pgcopy.proofs.Looked.{plan_entries, no_lookup, unknown_status, unmet_status}
 use Rattle.pgcopy.proofs.run.execute.Goals as goal
 
-pub returns-in-Ok-recopy-clause-copied : goal.returns-in-Ok-recopy-clause-copied
-returns-in-Ok-recopy-clause-copied g c = rw c.in-Ok.ensures.plan (λ _. (c.in-Ok-recopy.copied.rows, refl, c.in-Ok-recopy.ensures.copied))
+pub copy_plan-requires-clause-entries : goal.copy_plan-requires-clause-entries
+copy_plan-requires-clause-entries g c = plan_entries (map string_bytes c.args.words.now) _ c.in-Ok.ensures.is_plan
+
+pub returns-in-Ok-copy_plan-clause-copied : goal.returns-in-Ok-copy_plan-clause-copied
+returns-in-Ok-copy_plan-clause-copied g c = rw c.in-Ok.ensures.plan (λ _. (c.in-Ok-copy_plan.copied.rows, refl, c.in-Ok-copy_plan.ensures.copied))
 
 pub returns-in-Ok-clause-fault : goal.returns-in-Ok-clause-fault
-returns-in-Ok-clause-fault g c =
-    rw c.in-Ok.ensures.plan (λ _ _. (
-      c.in-Err.fault,
-      refl,
-      record {
-        says = took_weaker (c.recopy.ensures.fault c.in-Err.fault c.in-Err.is) (λ x says.
-            says_of_stream (no_lookup _ _ _ _ c.recopy.result c.in-Err.fault c.in-Ok.ensures.built c.in-Err.is c.recopy.ensures.met) says);
-        at_end = λ e. c.recopy.ensures.truncated (c.in-Err.is ∙ ap Err e);
-        source_failed = λ e. c.recopy.ensures.read_fault (c.in-Err.is ∙ ap Err e);
-        sink_failed = λ e. c.recopy.ensures.write_fault (c.in-Err.is ∙ ap Err e);
-      },
-    ))
+returns-in-Ok-clause-fault g c = rw c.in-Ok.ensures.plan (λ _ _. (c.in-Err.fault, refl, c.copy_plan.ensures.fault c.in-Err.fault c.in-Err.is))
+
+pub returns-in-Ok-clause-unread : goal.returns-in-Ok-clause-unread
+returns-in-Ok-clause-unread g c = λ status.
+    let unknown = unknown_status c.in-Err.fault status in
+    (c.copy_plan.ensures.untouched unknown.0 (c.in-Err.is ∙ ap Err unknown.1)).0
+
+pub returns-in-Ok-clause-unwritten : goal.returns-in-Ok-clause-unwritten
+returns-in-Ok-clause-unwritten g c = λ status.
+    let unknown = unknown_status c.in-Err.fault status in
+    (c.copy_plan.ensures.untouched unknown.0 (c.in-Err.is ∙ ap Err unknown.1)).1
+
+pub returns-in-Ok-clause-unmet : goal.returns-in-Ok-clause-unmet
+returns-in-Ok-clause-unmet g c =
+    rw c.in-Ok.ensures.plan (λ key missing. unmet_status c.copy_plan.result c.in-Err.fault key c.in-Err.is (c.copy_plan.ensures.unmet key missing))
 
 pub returns-in-Ok-clause-complete : goal.returns-in-Ok-clause-complete
 returns-in-Ok-clause-complete g c =
-    rw c.in-Ok.ensures.plan (λ valid reads writes.
-    inr (status_at_fault c.recopy.result c.in-Err.fault c.in-Err.is (c.recopy.ensures.complete (met_nothing _ _ c.in-Ok.ensures.built) (asked_nothing _ _ _ c.in-Ok.ensures.built) valid reads writes)))
+    rw c.in-Ok.ensures.plan (λ none valid reads writes.
+    inr (status_at_fault c.copy_plan.result c.in-Err.fault c.in-Err.is (c.copy_plan.ensures.complete none valid reads writes)))
 
-pub returns-in-Ok-recopy-clause-refused : goal.returns-in-Ok-recopy-clause-refused
-returns-in-Ok-recopy-clause-refused g c =
-    rw c.in-Ok.ensures.plan (λ none _ _. absurd (false≢true (c.in-Ok-recopy.ensures.refused none)))
+pub returns-in-Ok-copy_plan-clause-refused : goal.returns-in-Ok-copy_plan-clause-refused
+returns-in-Ok-copy_plan-clause-refused g c =
+    rw c.in-Ok.ensures.plan (λ _ front _ _. absurd (false≢true (c.in-Ok-copy_plan.ensures.refused front)))
 
 pub returns-in-Ok-clause-refused : goal.returns-in-Ok-clause-refused
 returns-in-Ok-clause-refused g c =
-    rw c.in-Ok.ensures.plan (λ _ reads writes.
-    refused_at_fault c.in-Err.fault (no_lookup _ _ _ _ c.recopy.result c.in-Err.fault c.in-Ok.ensures.built c.in-Err.is c.recopy.ensures.met) (λ e. c.recopy.ensures.read_fault (c.in-Err.is ∙ ap Err e)) (λ e. c.recopy.ensures.write_fault (c.in-Err.is ∙ ap Err e)) reads writes)
-
-pub returns-in-Ok-clause-known : goal.returns-in-Ok-clause-known
-returns-in-Ok-clause-known g c = λ is.
-    not_unknown c.in-Err.fault (no_lookup _ _ _ _ c.recopy.result c.in-Err.fault c.in-Ok.ensures.built c.in-Err.is c.recopy.ensures.met) is
+    rw c.in-Ok.ensures.plan (λ none _ reads writes.
+    let met = c.copy_plan.ensures.fault c.in-Err.fault c.in-Err.is in
+    refused_at_fault c.in-Err.fault (no_lookup (plan_data c.in-Ok.plan) c.in-Err.fault met none) met.source_failed met.sink_failed reads writes)
 
 pub returns-clause-fault : goal.returns-clause-fault
 returns-clause-fault g c = λ _ _. ok_and _ _ (c.read_words.ensures.no_memory (cc)) (λ plan. (NoMemory, refl, no_memory_met plan _ _))

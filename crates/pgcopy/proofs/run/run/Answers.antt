@@ -4,6 +4,7 @@ use Rattle.pgcopy.specs.declared.report.Outcome.{Outcome}
 use Rattle.pgcopy.specs.Words.{plan_of}
 use Rattle.pgcopy.specs.Report.{line_of, status_of, WroteUnlessFailed}
 use Rattle.pgcopy.proofs.Plans.{no_plan, with_plan, for_plan, for_fault, for_no_plan, fault_of_no_plan}
+use Rattle.pgcopy.proofs.Looked.{unknown_told}
 use Rattle.pgcopy.proofs.Sending.{line_gained}
 use Rattle.pgcopy.proofs.run.run.Goals as goal
 
@@ -55,3 +56,19 @@ returns-clause-complete g c = rw c.status.ensures (for_plan c.args.words.now _ c
 
 pub returns-clause-refused : goal.returns-clause-refused
 returns-clause-refused g c = rw c.status.ensures (for_plan c.args.words.now _ c.execute-outcome.ensures.refused)
+
+pub returns-clause-unknown_type : goal.returns-clause-unknown_type
+returns-clause-unknown_type g c = λ status.
+    let h = with_plan c.args.words.now _ (c.execute-outcome.ensures.fault (λ e. absurd (cc)) (λ e. absurd (cc))) in
+    let line = subst (λ (o : Outcome). WroteUnlessFailed (g.N.Sink.state c.args.notes.now) (g.N.Sink.state c.report.new.notes) (line_of o)) h.2.1 c.report.ensures.line in
+    let told = unknown_told h.0 h.2.0 (WroteUnlessFailed (g.N.Sink.state c.args.notes.now) (g.N.Sink.state c.report.new.notes)) h.2.2 (sym (ap status_of h.2.1) ∙ sym c.status.ensures ∙ status) line in
+    (h.0, h.1, told.0, told.1, told.2)
+
+pub returns-clause-unread : goal.returns-clause-unread
+returns-clause-unread g c = λ status. c.execute-outcome.ensures.unread (sym c.status.ensures ∙ status)
+
+pub returns-clause-unwritten : goal.returns-clause-unwritten
+returns-clause-unwritten g c = λ status. c.execute-outcome.ensures.unwritten (sym c.status.ensures ∙ status)
+
+pub returns-clause-unmet : goal.returns-clause-unmet
+returns-clause-unmet g c = λ plan key is missing. rw c.status.ensures (for_plan c.args.words.now _ c.execute-outcome.ensures.unmet plan is key missing)
