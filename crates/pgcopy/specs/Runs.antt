@@ -18,8 +18,8 @@ CopiedRows plan n source source_now sink sink_now =
     Took source source_now (IsCopied plan.limits plan.columns (canonical_front plan.columns) n (Settled sink sink_now))
 
 -- What a fault says of the bytes that were taken and of those that were written. A truncated stream was read to its
--- end, and a fault of the source or of the sink comes only where that failed. A type that is not known is the first that
--- is missing, and no lookup fails.
+-- end, and a fault of the source or of the sink comes only where that failed. A type that is not known is the first
+-- that is missing, and no lookup fails.
 pub record MetFault {S K : Type 0} (plan : PlanData) (fault : CopyFault) (source source_now : SourceState S)
     (sink sink_now : SinkState K) : Type 0 where
   pub says : Took source source_now

@@ -46,6 +46,7 @@ exit status:
   1  something is wrong with the words; nothing was read
   2  the input is no such stream, or exceeds a limit
   3  the input could not be read, or the output not written
+  4  a TYPE needs an oid that no oid= gives; nothing was read
   5  memory was asked for and refused
 Use the output after status 0 only.
 

@@ -19,7 +19,7 @@ use pgw_tree::{Copied, CopyFault, recopy};
 use pgw_wire::{Sink, Source};
 use std::alloc::Global;
 
-/// Copies what a plan asks for. Oids are looked up among its entries.
+/// Copies what a plan asks for. The oids that its columns need are looked up among its entries.
 fn copy_plan<S: Source, K: Sink>(
     alloc: Global,
     plan: &Plan,
@@ -42,8 +42,8 @@ fn copy_plan<S: Source, K: Sink>(
         → ¬ HasFailed (S.state source.old) (S.state source.new)
         → ¬ HasFailed (K.state sink.old) (K.state sink.new)
         → IsOkUnless result CopyFault.NoMemory }
-    ensures refused { HasNoFront (left (S.state source.old)) (IsValidStream plan.now.limits (column_shapes plan.now.schema))
-        → IsErr result }
+    ensures refused { HasNoFront (left (S.state source.old))
+        (IsValidStream plan.now.limits (column_shapes plan.now.schema)) → IsErr result }
     ensures taken { Took (S.state source.old) (S.state source.new) (λ _. ⊤) }
     ensures gained { Gains (K.state sink.old) (K.state sink.new) }
 {
@@ -105,8 +105,8 @@ fn execute<S: Source, K: Sink>(
 ///
 /// The command `copy`, options and column types copy a stream of rows of these columns, as PostgreSQL's
 /// `COPY .. (FORMAT binary)` has it, from the source to the sink. `rows=` limits how many rows the stream has, and
-/// `field=` how many bytes the canonical form of a field has; `oid=` gives the oids of a type, which are looked up where
-/// columns need them.
+/// `field=` how many bytes the canonical form of a field has; `oid=` gives the oids of a type, which are looked up before
+/// anything is read, where the columns need them. So far no type that a word names needs one.
 ///
 /// | status | cause | line |
 /// |---|---|---|
@@ -121,7 +121,7 @@ fn execute<S: Source, K: Sink>(
 /// | `Refused` | a value is longer than the limit | `row`, `column`, and `too long` |
 /// | `Refused` | as many rows as the limit were copied, and the count of another one is there | `row limit` |
 /// | `Outside` | the source or the sink failed | `read fault` or `write fault` |
-/// | `UnknownType` | a column needs an oid of a named type, and `oid=` gives none, or 0; nothing was read or written | `unknown type` and the type's key |
+/// | `UnknownType` | the columns need an oid of a type, and no `oid=` gives it, or one gives 0; nothing was read or written | `unknown type` and the key of the first such type |
 /// | `NoMemory` | memory was asked for and refused | `out of memory` |
 ///
 /// Rows and columns are counted from 0. A fault of the header comes before anything is written; behind the header the
@@ -169,8 +169,8 @@ pub fn run<S: Source, K: Sink, N: Sink>(
     ensures unmet { (plan : PlanData) (key : Key) → IsPlan (texts words.now) plan → missing plan ≡ Some key
         → (result ≡ Status.UnknownType) ⊎ (result ≡ Status.NoMemory) }
 
-    // Where no oid is missing, a valid stream is copied, and what begins with none is refused, unless memory runs out or an
-    // object outside failed.
+    // Where no oid is missing, a valid stream is copied, and what begins with none is refused, unless memory runs out or
+    // an object outside failed.
     ensures complete { (plan : PlanData) → IsPlan (texts words.now) plan → missing plan ≡ None
         → HasFront (left (S.state source.old)) (IsValidStream plan.limits plan.columns)
         → ¬ HasFailed (S.state source.old) (S.state source.new)
