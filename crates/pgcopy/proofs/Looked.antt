@@ -47,7 +47,7 @@ said_schema (Some schema) h = refl
 split : (entries : List Found) (i : ℕ) (entry : Found) → i < length entries → entry ≡ get_or entries i entry → entries ≡ take i entries ++ entry ∷ drop (suc i) entries
 split entries i entry within is = split_at entries i entry within ∙ ap (λ (e : Found). take i entries ++ e ∷ drop (suc i) entries) (sym is)
 
-pub entry_whole : (entries : List Found) (i : ℕ) (entry : Found) (schema name : List ℕ) → AreEntries entries → i < length entries → entry ≡ get_or entries i entry → schema ≡ schema_of (owned_key entry.key) → name ≡ entry.key.name
+entry_whole : (entries : List Found) (i : ℕ) (entry : Found) (schema name : List ℕ) → AreEntries entries → i < length entries → entry ≡ get_or entries i entry → schema ≡ schema_of (owned_key entry.key) → name ≡ entry.key.name
     → record { key = record { schema = Some schema; name = name }; oid = entry.oid; array_oid = entry.array_oid } ≡ entry
 entry_whole entries i entry schema name are within is at called =
     let there = split entries i entry within is in
@@ -82,7 +82,7 @@ told_is plan catalog entries told is same e =
     e ∙ ap (λ (c : Catalog). Some (catalog_known c)) (is ∙ ap (λ (es : List Found). record { entries = es; path = searched_schema ∷ []; searches = no_calls [] }) same)
     ∙ (λ i. Some (λ (key : Key). known_at plan key.schema key.name i))
 
--- A lookup over a catalog that no search of fails has not failed.
+-- A lookup over a catalog of which no search fails has not failed.
 pub never_failed : (needs : List NeededKey) (was now : Catalog) (before after : LookupState) → never_fails was.searches.fails ≡ true → (catalog_state now).told.faultless ≡ (catalog_state was).told.faultless
     → after.fault_count ≡ (catalog_state now).fault_count → HasFailedAsked needs before after → ⊥
 never_failed [] was now before after well same counts failed = failed
