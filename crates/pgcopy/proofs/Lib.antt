@@ -7,6 +7,7 @@ pub mod Entries
 pub mod FirstFaults
 pub mod AskedFor
 pub mod Plans
+pub mod Given
 pub mod Looked
 pub mod ReadingWords
 pub mod Sending

@@ -14,13 +14,14 @@ use Rattle.pgw_meta.specs.NamedOids.{known_of}
 use Rattle.pgw_meta.specs.Catalog.{Catalog, in_schema, oids_in, catalog_known, catalog_state, never_fails, no_faults}
 use Rattle.pgw_meta.specs.declared.found_oids.Found.{Found}
 use Rattle.pgw_meta.specs.declared.key.TypeKey.{TypeKey}
+use Rattle.pgw_tree.specs.Causes.{fault_says}
 use Rattle.pgw_tree.specs.Lookups.{first_unmet, AreMet, HasFailedAsked, IsLookupFault, IsUnknownType}
 use Rattle.pgw_tree.specs.declared.fault.CopyFault.{CopyFault}
 use Rattle.pgw_tree.specs.declared.fault.CopyFault.TheVariants.{BadHeader, BadFlags, Truncated, BadFieldCount, UnexpectedEndOfRow, BadValue, TooLong, RowLimit, UnknownType, LookupFault, ReadFault, WriteFault, NoMemory}
 use Rattle.pgcopy.specs.declared.report.Status.TheVariants.{UnknownType as status_unknown_type, NoMemory as status_no_memory}
 use Rattle.pgcopy.specs.OidWords.{searched_schema, schema_of, entry_key, AreEntries, SpellsEntry}
-use Rattle.pgcopy.specs.Words.{PlanData, IsPlan, named, missing}
-use Rattle.pgcopy.specs.Runs.{MetFault}
+use Rattle.pgcopy.specs.Words.{PlanData, IsPlan, named, missing, canonical_rows}
+use Rattle.pgcopy.specs.Runs.{run_says, MetFault}
 use Rattle.pgcopy.specs.declared.report.Outcome.TheVariants.{Fault}
 use Rattle.pgcopy.specs.Report.{fault_status, line_of, unknown_text}
 use Rattle.pgcopy.proofs.Entries.{once_at}
@@ -92,6 +93,11 @@ never_failed (n ∷ needs) was now before after well same counts failed = omega 
 pub met_all : (told : Option Known) (k : Known) (needs : List NeededKey) → told ≡ Some k → first_unmet k needs ≡ None → AreMet told needs
 met_all told k [] is none = tt
 met_all told k (n ∷ needs) is none = (k, is, none)
+
+-- A fault that is none of the lookup is one of the stream.
+pub says_of_stream : (plan : PlanData) (fault : CopyFault) {Written : List ℕ → Type 0} {taken : List ℕ} → (IsLookupFault fault → ⊥) → run_says plan fault Written taken → fault_says plan.limits plan.columns (canonical_rows plan) fault Written taken
+says_of_stream plan fault other (inl l) = absurd (other l.0)
+says_of_stream plan fault other (inr s) = s
 
 -- Where nothing is missing, no fault is one of the lookup.
 pub no_lookup : {S K : Type 0} (plan : PlanData) (fault : CopyFault) {a b : SourceState S} {k l : SinkState K} → MetFault plan fault a b k l → missing plan ≡ None → IsLookupFault fault → ⊥

@@ -7,13 +7,13 @@ use Rattle.pgw_wire.proofs.Taking.{ended}
 use Rattle.pgw_tree.specs.declared.fault.CopyFault.{CopyFault}
 use Rattle.pgw_meta.specs.Shape.{Shape}
 use Rattle.pgw_tree.specs.Limits.{Limits}
-use Rattle.pgw_tree.specs.Causes.{Form, IsCopied, fault_says, copy_says, in_header, in_row, in_end}
+use Rattle.pgw_tree.specs.Causes.{Form, IsCopied, rows_say, in_header, in_row, in_end}
 use Rattle.pgcopy.specs.declared.report.Outcome.TheVariants.{Copied, Fault}
 use Rattle.std.specs.Io.Buffered.{writer_inner, writer_buffer}
 use Rattle.pgcopy.specs.declared.lent.LentWriter.{LentWriter}
 use Rattle.pgcopy.specs.declared.lent.FinalSink.{FinalSink}
 use Rattle.pgcopy.specs.Words.{PlanData}
-use Rattle.pgcopy.specs.Runs.{CopiedRows, MetFault}
+use Rattle.pgcopy.specs.Runs.{CopiedRows, run_says, MetFault}
 use Rattle.pgcopy.specs.Report.{line_of, WroteUnlessFailed}
 use Rattle.pgcopy.specs.Lent.{marked, kept_back, GotFront, CopiedOut, StoppedOut}
 
@@ -91,17 +91,17 @@ wrote_front_as to w = record { front = w.front; rest = w.rest; is = w.is; missin
 pub copied_as : {limits : Limits} {ts : List Shape} {form : Form} {n : ℕ} {P Q : List ℕ → Type 0} {taken : List ℕ} → ((x : List ℕ) → P x → Q x) → IsCopied limits ts form n P taken → IsCopied limits ts form n Q taken
 copied_as to c = record { stream = c.stream; canonical = λ rows is. to _ (c.canonical rows is) }
 
-pub says_as : {limits : Limits} {ts : List Shape} {form : Form} {fault : CopyFault} {P Q : List ℕ → Type 0} {taken : List ℕ} → ((x : List ℕ) → P x → Q x) → fault_says limits ts form fault P taken → fault_says limits ts form fault Q taken
-says_as to (inl h) = inl (h.0, to _ h.1)
-says_as to (inr (inl h)) = inr (inl (record { front = h.front; behind = h.behind; rows = h.rows; begins = h.begins; within = h.within; is = h.is; cause = h.cause; written = to _ h.written }))
-says_as to (inr (inr (is, in_header header p))) = inr (inr (is, in_header header (wrote_front_as to p)))
-says_as to (inr (inr (is, in_row rows last next begins within form_is p))) = inr (inr (is, in_row rows last next begins within form_is (wrote_front_as (λ x. to _) p)))
-says_as to (inr (inr (is, in_end rows front begins within end (inl p)))) = inr (inr (is, in_end rows front begins within end (inl (wrote_front_as (λ x. to _) p))))
-says_as to (inr (inr (is, in_end rows front begins within end (inr w)))) = inr (inr (is, in_end rows front begins within end (inr (to _ w))))
+rows_as : {limits : Limits} {ts : List Shape} {form : Form} {fault : CopyFault} {P Q : List ℕ → Type 0} {taken : List ℕ} → ((x : List ℕ) → P x → Q x) → rows_say limits ts form fault P taken → rows_say limits ts form fault Q taken
+rows_as to (inl h) = inl (record { front = h.front; behind = h.behind; rows = h.rows; begins = h.begins; within = h.within; is = h.is; cause = h.cause; written = to _ h.written })
+rows_as to (inr (is, in_header header p)) = inr (is, in_header header (wrote_front_as to p))
+rows_as to (inr (is, in_row rows last next begins within form_is p)) = inr (is, in_row rows last next begins within form_is (wrote_front_as (λ x. to _) p))
+rows_as to (inr (is, in_end rows front begins within end (inl p))) = inr (is, in_end rows front begins within end (inl (wrote_front_as (λ x. to _) p)))
+rows_as to (inr (is, in_end rows front begins within end (inr w))) = inr (is, in_end rows front begins within end (inr (to _ w)))
 
-pub copy_as : {limits : Limits} {ts : List Shape} {form : Form} {fault : CopyFault} {P Q : List ℕ → Type 0} {taken : List ℕ} → ((x : List ℕ) → P x → Q x) → copy_says limits ts form fault P taken → copy_says limits ts form fault Q taken
-copy_as to (inl h) = inl (h.0, h.1, to _ h.2)
-copy_as to (inr h) = inr (says_as to h)
+pub run_as : (plan : PlanData) (fault : CopyFault) {P Q : List ℕ → Type 0} {taken : List ℕ} → ((x : List ℕ) → P x → Q x) → run_says plan fault P taken → run_says plan fault Q taken
+run_as plan fault to (inl h) = inl (h.0, h.1, to _ h.2)
+run_as plan fault to (inr (inl h)) = inr (inl (h.0, to _ h.1))
+run_as plan fault to (inr (inr h)) = inr (inr (rows_as to h))
 
 -- What was taken is what the input began with.
 pub input_began : {S : Type 0} (a b : SourceState S) (P : List ℕ → Type 0) (t : Took a b P) (input : Option (List ℕ)) → ((bytes : List ℕ) → input ≡ Some bytes → left a ≡ Some bytes) → (rest : List ℕ) × IfSome input (λ bytes. bytes ≡ t.taken ++ rest) × (IsAtEnd (left b) → IfSome input (λ _. rest ≡ []))
@@ -130,7 +130,7 @@ pub stopped_out : {S K : Type 0} (plan : PlanData) (fault : CopyFault) (a b : So
     → ((x : List ℕ) → Appends (gained k) (gained l) x → GotFront output output_now x) → MetFault plan fault a b k l → GotFront errors errors_now (line_of (Fault fault)) → StoppedOut plan fault input output output_now errors errors_now
 stopped_out plan fault a b k l input output output_now errors errors_now is reach met line =
     let r = input_began a b _ met.says input is in
-    record { taken = met.says.taken; rest = r.0; began = r.1; at_end = λ e. r.2 (met.at_end e); says = copy_as (λ x w. reach x w.appends) met.says.has; is_missing = met.is_missing; looked_up = met.looked_up; line = line }
+    record { taken = met.says.taken; rest = r.0; began = r.1; at_end = λ e. r.2 (met.at_end e); says = run_as plan fault (λ x w. reach x w.appends) met.says.has; is_missing = met.is_missing; looked_up = met.looked_up; line = line }
 
 -- Of no bytes the front is none.
 pub got_none : {before now : Option (List ℕ)} → GotFront before now [] → Appends before now []

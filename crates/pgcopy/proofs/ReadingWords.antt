@@ -14,7 +14,7 @@ use Rattle.pgw_meta.specs.declared.found_oids.Found.{Found}
 use Rattle.pgcopy.specs.OidWords.{entry_key}
 use Rattle.pgcopy.specs.declared.words.WordFault.TheVariants.{NotYet}
 use Rattle.pgcopy.specs.declared.words.WordsRead.{WordsRead}
-use Rattle.pgcopy.specs.Words.{type_of, in_front, behind, is_option, entry_of, number_of, digits_in, number_fault, oid_fault, option_fault, word_fault}
+use Rattle.pgcopy.specs.Words.{scalar_of, or_null, array_or_scalar, type_of, in_front, behind, is_option, entry_of, number_of, digits_in, number_fault, oid_fault, option_fault, word_fault}
 use Rattle.pgcopy.specs.WordsRead.{AreRead}
 use Rattle.pgcopy.proofs.Options.{behind_is}
 
@@ -86,13 +86,48 @@ rows_no_field word rest is = ap (behind (codes "field=")) (behind_is (codes "row
 field_is_no_rows : (rest : List ℕ) → behind (codes "rows=") (codes "field=" ++ rest) ≡ None
 field_is_no_rows rest = refl
 
+-- What reads no word behind a front, reads none with the mark.
+none_marked : (read : List ℕ → Option Shape) (front rest : List ℕ) → ((rest : List ℕ) → read (front ++ rest) ≡ None) → ((rest : List ℕ) → in_front (codes "?") (front ++ rest) ≡ option_map (λ back. front ++ back) (in_front (codes "?") rest)) → or_null read (front ++ rest) ≡ None
+none_marked read front rest none passes = by (in_front (codes "?") rest) refl
+  where
+    by : (r : Option (List ℕ)) → in_front (codes "?") rest ≡ r → or_null read (front ++ rest) ≡ None
+    by None is = rw (passes rest, is) (none rest)
+    by (Some back) is = rw (passes rest, is, none back) refl
+
+none_part : (front rest : List ℕ) → ((rest : List ℕ) → scalar_of (front ++ rest) ≡ None) → ((rest : List ℕ) → in_front (codes "?") (front ++ rest) ≡ option_map (λ back. front ++ back) (in_front (codes "?") rest))
+    → ((rest : List ℕ) → in_front (codes "[]") (front ++ rest) ≡ option_map (λ back. front ++ back) (in_front (codes "[]") rest)) → array_or_scalar (front ++ rest) ≡ None
+none_part front rest none passes over = by (in_front (codes "[]") rest) refl
+  where
+    by : (r : Option (List ℕ)) → in_front (codes "[]") rest ≡ r → array_or_scalar (front ++ rest) ≡ None
+    by None is = rw (over rest, is) (none rest)
+    by (Some back) is = rw (over rest, is, none_marked scalar_of front back none passes) refl
+
+option_none : (front rest : List ℕ) → ((rest : List ℕ) → scalar_of (front ++ rest) ≡ None) → ((rest : List ℕ) → in_front (codes "?") (front ++ rest) ≡ option_map (λ back. front ++ back) (in_front (codes "?") rest))
+    → ((rest : List ℕ) → in_front (codes "[]") (front ++ rest) ≡ option_map (λ back. front ++ back) (in_front (codes "[]") rest)) → type_of (front ++ rest) ≡ None
+option_none front rest none passes over = none_marked array_or_scalar front rest (λ rest. none_part front rest none passes over) passes
+
 -- no option is a type
 no_types : (rest : List ℕ) → (type_of (codes "rows=" ++ rest) ≡ None) × (type_of (codes "field=" ++ rest) ≡ None) × (type_of (codes "oid=" ++ rest) ≡ None)
-no_types rest = by (in_front (codes "?") rest) refl
+no_types rest = (
+  option_none (codes "rows=") rest (λ rest. refl) (λ rest. rows (in_front (codes "?") rest)) (λ rest. rows (in_front (codes "[]") rest)),
+  option_none (codes "field=") rest (λ rest. refl) (λ rest. field (in_front (codes "?") rest)) (λ rest. field (in_front (codes "[]") rest)),
+  option_none (codes "oid=") rest (λ rest. refl) (λ rest. given (in_front (codes "?") rest)) (λ rest. given (in_front (codes "[]") rest)),
+)
   where
-    by : (r : Option (List ℕ)) → in_front (codes "?") rest ≡ r → (type_of (codes "rows=" ++ rest) ≡ None) × (type_of (codes "field=" ++ rest) ≡ None) × (type_of (codes "oid=" ++ rest) ≡ None)
-    by None is = rw is (refl, refl, refl)
-    by (Some front) is = rw is (refl, refl, refl)
+    one : ℕ → Option (List ℕ) → Option (List ℕ)
+    one byte r = option_map (λ front. byte ∷ front) r
+
+    rows : (r : Option (List ℕ)) → one 114 (one 111 (one 119 (one 115 (one 61 r)))) ≡ option_map (λ back. codes "rows=" ++ back) r
+    rows None = refl
+    rows (Some back) = refl
+
+    field : (r : Option (List ℕ)) → one 102 (one 105 (one 101 (one 108 (one 100 (one 61 r))))) ≡ option_map (λ back. codes "field=" ++ back) r
+    field None = refl
+    field (Some back) = refl
+
+    given : (r : Option (List ℕ)) → one 111 (one 105 (one 100 (one 61 r))) ≡ option_map (λ back. codes "oid=" ++ back) r
+    given None = refl
+    given (Some back) = refl
 
 -- a type is no option
 pub type_is_plain : (word : List ℕ) (t : Shape) → type_of word ≡ Some t → (behind (codes "rows=") word ≡ None) × (behind (codes "field=") word ≡ None) × (behind (codes "oid=") word ≡ None)

@@ -1,22 +1,22 @@
--- The type that a word names, with and without a `?` at its end.
-use Rattle.std.proofs.Common.{◌≡◌, ◌≢◌, ◌⊎◌, inl, inr, Result, Err, ℕ, ◌<◌, ◌≤◌, ◌+◌, ◌-◌, lit≤, subst, List, [], ◌∷◌, ◌++◌, length, take, codes, Option, None, Some, option_map, Bor, Bool, true, false, refl, sym, ap, ◌∙◌, if◌then◌else◌}
+-- The type that a word names, with and without the marks behind its name.
+use Rattle.std.proofs.Common.{◌≡◌, ◌⊎◌, inl, inr, Result, Err, ℕ, ◌≤◌, lit≤, subst, List, [], ◌∷◌, ◌++◌, length, codes, Option, None, Some, option_map, Bor, Bool, true, false, refl, sym, ap, arith, ◌∙◌, if◌then◌else◌}
 use Rattle.std.proofs.lemmas.Slice.Eq.{bytes_eq-Decides}
 use Rattle.std.proofs.lemmas.Bool.{false_from_ne_true}
-use Rattle.std.proofs.lemmas.Str.Pattern.{strip_suffix_char}
+use Rattle.std.proofs.lemmas.List.{length-append}
 use Rattle.std.proofs.lemmas.Option.{none-some}
 use Rattle.std.specs.Bool.{⊤}
 use Rattle.std.specs.Option.{MatchOption, is_some, unwrap_or}
 use Rattle.std.specs.Result.{result_err}
 use Rattle.std.specs.Str.{bytes_eq}
-use Rattle.std.specs.Str.Pattern.{FindsCharSuffix}
+use Rattle.std.specs.Str.Pattern.{FindsTextSuffix, StripsSuffix}
 use Rattle.std.specs.List.{AllByRecursion, filter_map}
-use Rattle.pgw_meta.specs.Shape.{Scalar, bool, char, int2, int4, int8, oid, text, bytea, uuid, money, pg_lsn, macaddr, macaddr8, inet, cidr, date, time, timestamp, timestamptz, interval, numeric, Shape, scalar, nullable}
+use Rattle.pgw_meta.specs.Shape.{Scalar, bool, char, int2, int4, int8, oid, text, bytea, uuid, money, pg_lsn, macaddr, macaddr8, inet, cidr, date, time, timestamp, timestamptz, interval, numeric, Shape, scalar, nullable, array}
 use Rattle.pgw_meta.specs.Schema.{IsValidColumn, IsValidSchema, schema_fault}
 use Rattle.pgw_meta.specs.declared.schema.SchemaError.{SchemaError}
 use Rattle.pgw_meta.specs.declared.schema.SchemaError.TheVariants.{NoMemory}
 use Rattle.pgw_meta.proofs.Faults.{no_fault_where_valid}
 use Rattle.pgw_cell.specs.Built.{IsBuilt}
-use Rattle.pgcopy.specs.Words.{type_names, look_up, in_front, type_of}
+use Rattle.pgcopy.specs.Words.{type_names, look_up, in_front, scalar_of, or_null, array_or_scalar, type_of}
 
 -- a word is what stands in front of its end, and the end
 pub in_front_is : (back word front : List ℕ) → in_front back word ≡ Some front → word ≡ front ++ back
@@ -36,35 +36,37 @@ in_front_is back (byte ∷ bytes) front e = by (bytes_eq (byte ∷ bytes) back) 
     by true is more = let none : [] ≡ front = (let k = rw is at e in cc) in rw (sym none) ((bytes_eq-Decides (byte ∷ bytes) back).0 is)
     by false is more = longer (in_front back bytes) refl (rw is at e) more
 
-in_front_of : (end : ℕ) (front : List ℕ) → in_front (end ∷ []) (front ++ end ∷ []) ≡ Some front
-in_front_of end [] = rw ((bytes_eq-Decides (end ∷ []) (end ∷ [])).1 refl) refl
-in_front_of end (byte ∷ front) =
-    let other : bytes_eq (byte ∷ (front ++ end ∷ [])) (end ∷ []) ≡ false = false_from_ne_true _ (λ is. longer front ((bytes_eq-Decides (byte ∷ (front ++ end ∷ [])) (end ∷ [])).0 is)) in
-    rw (other, in_front_of end front) refl
+in_front_of : (back front : List ℕ) → in_front back (front ++ back) ≡ Some front
+in_front_of [] [] = refl
+in_front_of (b ∷ back) [] = rw ((bytes_eq-Decides (b ∷ back) (b ∷ back)).1 refl) refl
+in_front_of back (byte ∷ front) =
+    let other : bytes_eq (byte ∷ (front ++ back)) back ≡ false = false_from_ne_true _ (λ is. longer ((bytes_eq-Decides (byte ∷ (front ++ back)) back).0 is)) in
+    rw (other, in_front_of back front) refl
   where
-    longer : (bytes : List ℕ) → byte ∷ (bytes ++ end ∷ []) ≡ end ∷ [] → ⊥
-    longer [] e = cc
-    longer (b ∷ bytes) e = cc
+    longer : byte ∷ (front ++ back) ≡ back → ⊥
+    longer e = let same = ap length e in let parts = length-append front back in omega (arith, same, parts)
 
 -- what `strip_suffix` gives
-pub strips_end : (end : ℕ) (word : List ℕ) (r : Option (Bor (List ℕ)))
-    → MatchOption r (FindsCharSuffix end word None) (λ x. (n : ℕ) × FindsCharSuffix end word (Some n) × (x.now ≡ take (length word - n) word) × (length x.now + n ≡ length word))
-    → end < 128 → option_map (λ x. x.now) r ≡ in_front (end ∷ []) word
-strips_end end word r h small = by r (strip_suffix_char end word r h small)
+pub strips_end : (back word : List ℕ) (r : Option (Bor (List ℕ))) → MatchOption r (FindsTextSuffix back word None) (λ x. StripsSuffix (FindsTextSuffix back) word x.now) → option_map (λ x. x.now) r ≡ in_front back word
+strips_end back word None never = none (in_front back word) refl
   where
-    none : ((front : List ℕ) → word ≢ front ++ (end ∷ [])) → (q : Option (List ℕ)) → in_front (end ∷ []) word ≡ q → None ≡ q
-    none never None is = refl
-    none never (Some front) is = absurd (never front (in_front_is (end ∷ []) word front is))
+    none : (q : Option (List ℕ)) → in_front back word ≡ q → None ≡ q
+    none None is = refl
+    none (Some front) is = absurd (never front (in_front_is back word front is))
+strips_end back word (Some x) h =
+    let whole : word ≡ x.now ++ back = h.1.1 ∙ ap (λ front. front ++ back) (sym h.2) in
+    sym (ap (in_front back) whole ∙ in_front_of back x.now)
 
-    by : (r : Option (Bor (List ℕ))) → MatchOption r ((front : List ℕ) → word ≢ front ++ (end ∷ [])) (λ x. word ≡ x.now ++ (end ∷ [])) → option_map (λ x. x.now) r ≡ in_front (end ∷ []) word
-    by None never = none never (in_front (end ∷ []) word) refl
-    by (Some x) is = sym (ap (in_front (end ∷ [])) is ∙ in_front_of end x.now)
+-- What is read of a word with a mark is read in front of it, as it is or nullable.
+pub marked_is : {A : Type 0} (read : List ℕ → Option Shape) (form : A → Shape) (word : Bor (List ℕ)) (marked : Option (Bor (List ℕ))) (named : A) → option_map (λ x. x.now) marked ≡ in_front (codes "?") word.now
+    → Some (form named) ≡ read (unwrap_or marked word).now → Some (if is_some marked then nullable (form named) else form named) ≡ or_null read word.now
+marked_is read form word None named is r = rw (sym is) r
+marked_is read form word (Some x) named is r = rw (sym is) (ap (option_map nullable) r)
 
--- The type of a word is that of its name.
-pub type_is : (word : Bor (List ℕ)) (marked : Option (Bor (List ℕ))) → option_map (λ x. x.now) marked ≡ in_front (codes "?") word.now
-    → type_of word.now ≡ (if is_some marked then option_map nullable (look_up (unwrap_or marked word).now type_names) else look_up (unwrap_or marked word).now type_names)
-type_is word None is = rw (sym is) refl
-type_is word (Some x) is = rw (sym is) refl
+pub nothing_is : (read : List ℕ → Option Shape) (word : Bor (List ℕ)) (marked : Option (Bor (List ℕ))) → option_map (λ x. x.now) marked ≡ in_front (codes "?") word.now
+    → None ≡ read (unwrap_or marked word).now → None ≡ or_null read word.now
+nothing_is read word None is r = rw (sym is) r
+nothing_is read word (Some x) is r = rw (sym is) (ap (option_map nullable) r)
 
 pub differs : (xs ys : List ℕ) → (xs ≡ ys → ⊥) → bytes_eq xs ys ≡ false
 differs xs ys other = false_from_ne_true (bytes_eq xs ys) (λ e. other ((bytes_eq-Decides xs ys).0 e))
@@ -82,16 +84,6 @@ nothing_named name (entry ∷ entries) h = rw (differs name entry.0 h.0) (nothin
 pub no_type : (name : List ℕ) → StandsNowhere name type_names → look_up name type_names ≡ None
 no_type name h = nothing_named name type_names h
 
--- The type of a word, with or without a `?`, is that of its name, as it is or nullable.
-pub type_marked : {A : Type 0} (form : A → Shape) (marked : Option (Bor (List ℕ))) (named : A) (r : Option Shape) → r ≡ Some (form named)
-    → Some (if is_some marked then nullable (form named) else form named) ≡ (if is_some marked then option_map nullable r else r)
-type_marked form None named r is = sym is
-type_marked form (Some x) named r is = rw is refl
-
-pub nothing_marked : (marked : Option (Bor (List ℕ))) (r : Option Shape) → r ≡ None → None ≡ (if is_some marked then option_map nullable r else r)
-nothing_marked None r is = sym is
-nothing_marked (Some x) r is = rw is refl
-
 -- What holds of each line of a table, holds of what is found in it.
 found_has : {A : Type 0} (P : A → Type 0) (name : List ℕ) (entries : List (List ℕ × A)) (x : A) → AllByRecursion (λ e. P e.1) entries → look_up name entries ≡ Some x → P x
 found_has P name [] x all e = absurd (cc)
@@ -106,25 +98,66 @@ pub record IsKnown (t : Shape) : Type 0 where
   pub valid : IsValidColumn t
   pub built : IsBuilt t
 
-scalar_known : (s : Scalar) → IsKnown (scalar s) × IsKnown (nullable (scalar s))
-scalar_known s = (
-  record { valid = record { shallow = lit≤ tt; formed = tt }; built = tt },
-  record { valid = record { shallow = lit≤ tt; formed = (refl, tt) }; built = tt },
-)
+-- A scalar type is known, and so are its arrays, and each of these or null.
+pub record AreKnown (t : Shape) : Type 0 where
+  pub plain : IsKnown t
+  pub or_null : IsKnown (nullable t)
+
+pub record AreParts (t : Shape) : Type 0 where
+  pub one : AreKnown t
+  pub arrays : AreKnown (array t)
+  pub null_arrays : AreKnown (array (nullable t))
+
+scalar_known : (s : Scalar) → AreParts (scalar s)
+scalar_known s = record {
+  one = record {
+    plain = record { valid = record { shallow = lit≤ tt; formed = tt }; built = tt };
+    or_null = record { valid = record { shallow = lit≤ tt; formed = (refl, tt) }; built = tt };
+  };
+  arrays = record {
+    plain = record { valid = record { shallow = lit≤ tt; formed = (refl, tt) }; built = tt };
+    or_null = record { valid = record { shallow = lit≤ tt; formed = (refl, (refl, tt)) }; built = tt };
+  };
+  null_arrays = record {
+    plain = record { valid = record { shallow = lit≤ tt; formed = (refl, (refl, tt)) }; built = tt };
+    or_null = record { valid = record { shallow = lit≤ tt; formed = (refl, (refl, (refl, tt))) }; built = tt };
+  };
+}
+
+all_parts : AllByRecursion (λ e. AreParts e.1) type_names
+all_parts = (scalar_known bool, (scalar_known char, (scalar_known int2, (scalar_known int4, (scalar_known int8, (scalar_known oid, (scalar_known text, (scalar_known bytea, (scalar_known uuid, (scalar_known money, (scalar_known pg_lsn, (scalar_known macaddr, (scalar_known macaddr8, (scalar_known inet, (scalar_known cidr, (scalar_known date, (scalar_known time, (scalar_known timestamp, (scalar_known timestamptz, (scalar_known interval, (scalar_known numeric, tt)))))))))))))))))))))
+
+-- What holds of what is read of words and of that or null, holds of what is read with the mark.
+marked_has : (read : List ℕ → Option Shape) (P Q : Shape → Type 0) (word : List ℕ) (t : Shape) → ((word : List ℕ) (t : Shape) → read word ≡ Some t → P t) → ((t : Shape) → P t → Q t) → ((t : Shape) → P t → Q (nullable t))
+    → or_null read word ≡ Some t → Q t
+marked_has read P Q word t has plain null e = by (in_front (codes "?") word) refl
+  where
+    marked : (front : List ℕ) (r : Option Shape) → read front ≡ r → option_map nullable r ≡ Some t → Q t
+    marked front None is e = absurd (cc)
+    marked front (Some s) is e = let same : nullable s ≡ t = cc in subst Q same (null s (has front s is))
+
+    by : (r : Option (List ℕ)) → in_front (codes "?") word ≡ r → Q t
+    by None is = plain t (has word t (rw is at e))
+    by (Some front) is = marked front (read front) refl (rw is at e)
+
+scalar_parts : (name : List ℕ) (t : Shape) → scalar_of name ≡ Some t → AreParts t
+scalar_parts name t = found_has AreParts name type_names t all_parts
+
+part_known : (word : List ℕ) (t : Shape) → array_or_scalar word ≡ Some t → AreKnown t
+part_known word t e = by (in_front (codes "[]") word) refl
+  where
+    arrays : (element : List ℕ) (r : Option Shape) → or_null scalar_of element ≡ r → option_map array r ≡ Some t → AreKnown t
+    arrays element None is e = absurd (cc)
+    arrays element (Some s) is e =
+        let same : array s ≡ t = cc in
+        subst AreKnown same (marked_has scalar_of AreParts (λ s. AreKnown (array s)) element s scalar_parts (λ s parts. parts.arrays) (λ s parts. parts.null_arrays) is)
+
+    by : (r : Option (List ℕ)) → in_front (codes "[]") word ≡ r → AreKnown t
+    by None is = (scalar_parts word t (rw is at e)).one
+    by (Some element) is = arrays element (or_null scalar_of element) refl (rw is at e)
 
 pub known : (word : List ℕ) (t : Shape) → type_of word ≡ Some t → IsKnown t
-known word t e = by (in_front (codes "?") word) refl
-  where
-    all : AllByRecursion (λ e. IsKnown e.1 × IsKnown (nullable e.1)) type_names
-    all = (scalar_known bool, (scalar_known char, (scalar_known int2, (scalar_known int4, (scalar_known int8, (scalar_known oid, (scalar_known text, (scalar_known bytea, (scalar_known uuid, (scalar_known money, (scalar_known pg_lsn, (scalar_known macaddr, (scalar_known macaddr8, (scalar_known inet, (scalar_known cidr, (scalar_known date, (scalar_known time, (scalar_known timestamp, (scalar_known timestamptz, (scalar_known interval, (scalar_known numeric, tt)))))))))))))))))))))
-
-    marked : (r : Option Shape) → ((s : Shape) → r ≡ Some s → IsKnown s × IsKnown (nullable s)) → option_map nullable r ≡ Some t → IsKnown t
-    marked None all e = absurd (cc)
-    marked (Some s) all e = let same : nullable s ≡ t = cc in subst IsKnown same (all s refl).1
-
-    by : (r : Option (List ℕ)) → in_front (codes "?") word ≡ r → IsKnown t
-    by None is = (found_has (λ t. IsKnown t × IsKnown (nullable t)) word type_names t all (rw is at e)).0
-    by (Some name) is = marked (look_up name type_names) (λ s. found_has (λ t. IsKnown t × IsKnown (nullable t)) name type_names s all) (rw is at e)
+known word t = marked_has array_or_scalar AreKnown IsKnown word t part_known (λ t are. are.plain) (λ t are. are.or_null)
 
 -- each of the types that words name
 pub all_known : (words : List (List ℕ)) → AllByRecursion IsValidColumn (filter_map type_of words) × AllByRecursion IsBuilt (filter_map type_of words)

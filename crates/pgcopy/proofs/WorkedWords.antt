@@ -18,6 +18,15 @@ types_named = (refl, refl, refl, refl)
 named_nothing : (type_of [] ≡ None) × (type_of (codes "?") ≡ None) × (type_of (codes "int4??") ≡ None) × (type_of (codes "?int4") ≡ None) × (type_of (codes "int4 ") ≡ None)
 named_nothing = (refl, refl, refl, refl, refl)
 
+-- arrays: of an element that is not null, of one that may be, and each of them or null
+arrays_named : (type_of (codes "int4[]") ≡ Some (array (scalar int4))) × (type_of (codes "int4?[]") ≡ Some (array (nullable (scalar int4))))
+    × (type_of (codes "text[]?") ≡ Some (nullable (array (scalar text)))) × (type_of (codes "text?[]?") ≡ Some (nullable (array (nullable (scalar text)))))
+arrays_named = (refl, refl, refl, refl)
+
+no_arrays : (type_of (codes "[]") ≡ None) × (type_of (codes "?[]") ≡ None) × (type_of (codes "int4[") ≡ None) × (type_of (codes "int4]") ≡ None) × (type_of (codes "int4 []") ≡ None)
+    × (type_of (codes "int4[][]") ≡ None) × (type_of (codes "int4[]?[]") ≡ None) × (type_of (codes "int4??[]") ≡ None) × (type_of (codes "int4[]??") ≡ None) × (type_of (codes "int4[ ]") ≡ None)
+no_arrays = (refl, refl, refl, refl, refl, refl, refl, refl, refl, refl)
+
 -- the entry of a name in a schema
 abbrev entry : List ℕ → List ℕ → ℕ → ℕ → Found
 entry schema name oid array_oid = record { key = record { schema = Some schema; name = name }; oid = oid; array_oid = array_oid }

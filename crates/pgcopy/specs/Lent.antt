@@ -3,11 +3,11 @@ use Rattle.std.specs.Prelude.{◌≡◌, ◌≢◌, ℕ, ◌-◌, Bool, true, fa
 use Rattle.std.specs.Io.KnownBytes.{Appends}
 use Rattle.pgw_tree.specs.declared.fault.CopyFault.{CopyFault}
 use Rattle.pgw_tree.specs.declared.fault.CopyFault.TheVariants.{Truncated, UnknownType, LookupFault}
-use Rattle.pgw_tree.specs.Canonical.{canonical_front}
-use Rattle.pgw_tree.specs.Causes.{IsCopied, copy_says}
+use Rattle.pgw_tree.specs.Causes.{IsCopied}
 use Rattle.pgw_meta.specs.Keys.{owned_key}
 use Rattle.pgw_meta.specs.declared.key.TypeKey.{TypeKey}
-use Rattle.pgcopy.specs.Words.{PlanData, missing}
+use Rattle.pgcopy.specs.Words.{PlanData, missing, canonical_rows}
+use Rattle.pgcopy.specs.Runs.{run_says}
 use Rattle.pgcopy.specs.declared.report.Outcome.TheVariants.{Copied, Fault}
 use Rattle.pgcopy.specs.Report.{line_of}
 
@@ -36,7 +36,7 @@ pub record CopiedOut (plan : PlanData) (n : ℕ) (input output output_now errors
   pub taken : List ℕ
   pub rest : List ℕ
   pub began : IfSome input (λ bytes. bytes ≡ taken ++ rest)
-  pub copied : IsCopied plan.limits plan.columns (canonical_front plan.columns) n (Appends output output_now) taken
+  pub copied : IsCopied plan.limits plan.columns (canonical_rows plan) n (Appends output output_now) taken
   pub line : GotFront errors errors_now (line_of (Copied n))
 
 -- What a fault says of what the input began with, and of the bytes of which the output got a front; and a front of the
@@ -48,7 +48,7 @@ pub record StoppedOut (plan : PlanData) (fault : CopyFault)
   pub rest : List ℕ
   pub began : IfSome input (λ bytes. bytes ≡ taken ++ rest)
   pub at_end : fault ≡ Truncated → IfSome input (λ _. rest ≡ [])
-  pub says : copy_says plan.limits plan.columns (canonical_front plan.columns) fault (GotFront output output_now) taken
+  pub says : run_says plan fault (GotFront output output_now) taken
   pub is_missing : (key : TypeKey) → fault ≡ UnknownType key → missing plan ≡ Some (owned_key key)
   pub looked_up : fault ≢ LookupFault
   pub line : GotFront errors errors_now (line_of (Fault fault))

@@ -6,14 +6,16 @@ use Rattle.std.specs.Option.{option_or, option_and_then, option_map_or}
 use Rattle.std.specs.Result.{result_err}
 use Rattle.std.specs.Str.{bytes_eq}
 use Rattle.std.specs.Str.Parse.{digits_value}
-use Rattle.pgw_meta.specs.Shape.{Shape, scalar, nullable, bool, char, int2, int4, int8, oid, text, bytea, uuid, money, pg_lsn, macaddr, macaddr8, inet, cidr, date, time, timestamp, timestamptz, interval, numeric}
+use Rattle.pgw_meta.specs.Shape.{Shape, scalar, nullable, array, bool, char, int2, int4, int8, oid, text, bytea, uuid, money, pg_lsn, macaddr, macaddr8, inet, cidr, date, time, timestamp, timestamptz, interval, numeric}
 use Rattle.pgw_meta.specs.Known.{Key, Known}
 use Rattle.pgw_meta.specs.Needs.{is_same_key, needs_of}
 use Rattle.pgw_meta.specs.NamedOids.{known_of}
 use Rattle.pgw_meta.specs.Catalog.{in_schema}
 use Rattle.pgw_meta.specs.declared.found_oids.Found.{Found}
 use Rattle.pgw_tree.specs.Limits.{Limits, default_limits}
+use Rattle.pgw_cell.specs.Value.{Value}
 use Rattle.pgw_tree.specs.Lookups.{first_unmet}
+use Rattle.pgw_tree.specs.Canonical.{canonical_front}
 use Rattle.pgcopy.specs.Numbers.{is_number}
 use Rattle.pgcopy.specs.OidWords.{SpellsEntry, entry_in, schema_of, entry_key}
 use Rattle.pgcopy.specs.declared.words.WordFault.{WordFault}
@@ -42,11 +44,22 @@ in_front back [] = if bytes_eq [] back then Some [] else None
 in_front back (byte ∷ bytes) =
     if bytes_eq (byte ∷ bytes) back then Some [] else option_map (λ front. byte ∷ front) (in_front back bytes)
 
--- The column type that a word names. With a `?` at its end the column may be null.
+-- the type of a name
+abbrev pub scalar_of : List ℕ → Option Shape
+scalar_of name = look_up name type_names
+
+-- what is read of words, or that or null, which a `?` at the end of a word says
+abbrev pub or_null : (List ℕ → Option Shape) → List ℕ → Option Shape
+or_null read word = option_map_or (λ front. option_map nullable (read front)) (in_front (codes "?") word) (read word)
+
+-- A type by its name; or, in front of `[]`, the type of the elements of an array, which may be null too.
+abbrev pub array_or_scalar : List ℕ → Option Shape
+array_or_scalar word =
+    option_map_or (λ element. option_map array (or_null scalar_of element)) (in_front (codes "[]") word) (scalar_of word)
+
+-- The column type that a word names: such a type, or it or null.
 abbrev pub type_of : List ℕ → Option Shape
-type_of word =
-    option_map_or (λ name. option_map nullable (look_up name type_names)) (in_front (codes "?") word)
-    (look_up word type_names)
+type_of = or_null array_or_scalar
 
 -- what stands in a word behind these bytes, where it begins with them
 abbrev pub behind : List ℕ → List ℕ → Option (List ℕ)
@@ -100,6 +113,10 @@ named plan key = known_of plan.entries (in_schema (schema_of key) key.name)
 -- The key of the first type of which the columns of a plan need an oid that its entries do not give, or give as 0.
 abbrev pub missing : PlanData → Option Key
 missing plan = first_unmet (named plan) (needs_of plan.columns)
+
+-- what rows of a plan are written as, by the oids that its entries give: the canonical stream up to the end of the rows
+abbrev pub canonical_rows : PlanData → List (List Value) → List ℕ
+canonical_rows plan = canonical_front (named plan) plan.columns
 
 -- the entry of a word, where it is an option `oid=` and spells one
 abbrev pub entry_of : List ℕ → Option Found

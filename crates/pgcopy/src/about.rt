@@ -10,8 +10,9 @@ Reads a stream from standard input as PostgreSQL sends it for
 COPY .. TO STDOUT (FORMAT binary), and writes to standard output the canonical
 stream of the same rows. A line of report goes to standard error.
 
-Each TYPE is the type of one column, with a ? behind it where a field may be
-null:
+Each TYPE is the type of one column, or with [] behind it, as int4[], arrays of
+it in one dimension. A ? behind a type, or behind its [], says that it may be
+null, so that 'int4?[]?' is null or an array of numbers and nulls:
   bool         true or false
   char         one byte, PostgreSQL's \"char\"
   int2         a signed number of 16 bits
@@ -46,7 +47,7 @@ exit status:
   1  something is wrong with the words; nothing was read
   2  the input is no such stream, or exceeds a limit
   3  the input could not be read, or the output not written
-  4  a TYPE needs an oid that no oid= gives; nothing was read
+  4  a TYPE needs an oid that no oid= gives, or gives as 0; nothing was read
   5  memory was asked for and refused
 Use the output after status 0 only.
 

@@ -106,7 +106,8 @@ fn execute<S: Source, K: Sink>(
 /// The command `copy`, options and column types copy a stream of rows of these columns, as PostgreSQL's
 /// `COPY .. (FORMAT binary)` has it, from the source to the sink. `rows=` limits how many rows the stream has, and
 /// `field=` how many bytes the canonical form of a field has; `oid=` gives the oids of a type, which are looked up before
-/// anything is read, where the columns need them. So far no type that a word names needs one.
+/// anything is read, where the columns need them. The canonical form of an array has the oid of its elements' type; since
+/// words name PostgreSQL's own types and arrays of these, no column needs an oid of the words so far.
 ///
 /// | status | cause | line |
 /// |---|---|---|
@@ -117,11 +118,11 @@ fn execute<S: Source, K: Sink>(
 /// | `Refused` | the source ended inside the stream | `truncated` |
 /// | `Refused` | the count of a row is below -1 | `bad field count` and the count |
 /// | `Refused` | a row has fewer fields than there are columns | `row`, its number, and `too few fields` |
-/// | `Refused` | a field spells no value of its column | `row`, `column`, and what is wrong |
+/// | `Refused` | a field spells no value of its column's type, or is an array with an element that spells none of its own | `row`, `column`, and what is wrong |
 /// | `Refused` | a value is longer than the limit | `row`, `column`, and `too long` |
 /// | `Refused` | as many rows as the limit were copied, and the count of another one is there | `row limit` |
 /// | `Outside` | the source or the sink failed | `read fault` or `write fault` |
-/// | `UnknownType` | the columns need an oid of a type, and no `oid=` gives it, or one gives 0; nothing was read or written | `unknown type` and the key of the first such type |
+/// | `UnknownType` | the columns need an oid of a type, and no `oid=` gives it, or one gives 0; nothing was read or written | `unknown type` and the key of the first such type, in the order in which the columns first need them |
 /// | `NoMemory` | memory was asked for and refused | `out of memory` |
 ///
 /// Rows and columns are counted from 0. A fault of the header comes before anything is written; behind the header the

@@ -1,4 +1,4 @@
-ghost use Rattle.std.specs.Prelude.{◌≡◌, ◌↔◌, if◌then◌else◌, ℕ, ◌≤◌, ◌<◌, List, [], ◌∷◌, ◌++◌, length, map, string_bytes, codes, Option, Some, None, is_some, option_map, Ok, Err, true, IfOk, IfErr, IfSome, IsOk, MatchResult};
+ghost use Rattle.std.specs.Prelude.{◌≡◌, ◌↔◌, if◌then◌else◌, ℕ, ◌≤◌, ◌<◌, List, [], ◌∷◌, ◌++◌, length, map, false, string_bytes, codes, Option, Some, None, is_some, option_map, Ok, Err, true, IfOk, IfErr, IfSome, IsOk, MatchResult};
 ghost use Rattle.std.specs.List.{filter_map, list_all};
 ghost use Rattle.std.specs.Option.{unwrap_or};
 ghost use Rattle.pgw_meta.specs.Shape.{nullable};
@@ -9,8 +9,8 @@ ghost use Rattle.pgw_meta.specs.Schema.{IsValidSchema};
 ghost use Rattle.pgw_tree.specs.ColumnTypes.{AreBuilt};
 ghost use Rattle.pgw_tree.specs.Limits.{default_limits};
 ghost use Rattle.pgcopy.specs.OidWords.{given_entry};
-ghost use Rattle.pgcopy.specs.Words.{type_names, look_up, type_of, behind, is_option, entry_of, number_of, option_fault, word_fault, first_fault, PlanData, IsPlan, HasNoPlan, PlacedFault, IsFirstFault, plan_of, texts};
-ghost use Rattle.pgcopy.specs.WordsRead.{AreRead, plan_data};
+ghost use Rattle.pgcopy.specs.Words.{type_names, look_up, in_front, scalar_of, or_null, array_or_scalar, type_of, behind, is_option, entry_of, number_of, option_fault, word_fault, first_fault, PlanData, IsPlan, HasNoPlan, PlacedFault, IsFirstFault, plan_of, texts};
+ghost use Rattle.pgcopy.specs.WordsRead.{AreRead, part_shape, named_shape, plan_data};
 
 use crate::numbers::read_number;
 use crate::oid_words::{GivenOids, given_oids};
@@ -96,6 +96,16 @@ struct WordsRead {
     types: usize,
 }
 
+/// The type that a word names, for which no memory was asked yet: a scalar type or arrays of it, where elements may be null,
+/// and whether the column may be null.
+#[derive(Drop)]
+struct NamedType {
+    scalar: PgType,
+    null_elements: bool,
+    is_array: bool,
+    or_null: bool,
+}
+
 /// The type of a name.
 fn named_type(name: &str) -> Option<PgType>
     ensures { option_map shape result ≡ look_up name.now type_names }
@@ -126,24 +136,81 @@ fn named_type(name: &str) -> Option<PgType>
     }
 }
 
-/// The type of the name in a word, and whether a `?` at its end says that the column may be null.
-fn type_of(word: &str) -> Option<(PgType, bool)>
-    ensures { option_map (λ t. if t.1 then nullable (shape t.0) else shape t.0) result ≡ type_of word.now }
+/// What stands in a word in front of a text, where it ends with it.
+fn in_front<'a>(word: &'a str, back: &str) -> Option<&'a str>
+    ensures { option_map (λ front. front.now) result ≡ in_front back.now word.now }
 {
-    let marked = word.strip_suffix('?');
-    let named = named_type(marked.unwrap_or(word))?;
-    Some((named, marked.is_some()))
+    word.strip_suffix(back)
+}
+
+/// The type of the elements of an array: that of the name in a word, and whether a `?` behind it says that elements may be
+/// null.
+fn element_of(word: &str) -> Option<(PgType, bool)>
+    ensures { option_map (λ t. if t.1 then nullable (shape t.0) else shape t.0) result ≡ or_null scalar_of word.now }
+{
+    let marked = in_front(word, "?");
+    let scalar = named_type(marked.unwrap_or(word))?;
+    Some((scalar, marked.is_some()))
+}
+
+/// The type that a word names without null: a scalar, or an array of elements.
+fn array_or_scalar(word: &str) -> Option<NamedType>
+    ensures part { option_map part_shape result ≡ array_or_scalar word.now }
+    ensures null { IfSome result (λ named. named.or_null ≡ false) }
+{
+    match in_front(word, "[]") {
+        Some(element) => {
+            let (scalar, null_elements) = element_of(element)?;
+            Some(NamedType {
+                scalar,
+                null_elements,
+                is_array: true,
+                or_null: false,
+            })
+        }
+        None => Some(NamedType {
+            scalar: named_type(word)?,
+            null_elements: false,
+            is_array: false,
+            or_null: false,
+        }),
+    }
+}
+
+/// The type that a word names. A `?` at its end says that the column may be null.
+fn type_of(word: &str) -> Option<NamedType>
+    ensures { option_map named_shape result ≡ type_of word.now }
+{
+    let marked = in_front(word, "?");
+    let part = array_or_scalar(marked.unwrap_or(word))?;
+    Some(NamedType {
+        or_null: marked.is_some(),
+        ..part
+    })
 }
 
 /// The type, or it or null.
-fn column_of(alloc: Global, named: PgType, may_be_null: bool) -> Result<PgType, NoMemory>
-    ensures { IfOk result (λ column. shape column ≡ (if may_be_null then nullable (shape named) else shape named)) }
+fn or_null(alloc: Global, t: PgType, may_be_null: bool) -> Result<PgType, NoMemory>
+    ensures { IfOk result (λ column. shape column ≡ (if may_be_null then nullable (shape t) else shape t)) }
 {
     if may_be_null {
-        Ok(PgType::Nullable(Box::new(alloc, named)?))
+        Ok(PgType::Nullable(Box::new(alloc, t)?))
     } else {
-        Ok(named)
+        Ok(t)
     }
+}
+
+/// The type of a column that a word names.
+fn column_of(alloc: Global, named: NamedType) -> Result<PgType, NoMemory>
+    ensures { IfOk result (λ column. shape column ≡ named_shape named) }
+{
+    let part = if named.is_array {
+        let element = or_null(alloc, named.scalar, named.null_elements)?;
+        PgType::Array(Box::new(alloc, element)?)
+    } else {
+        named.scalar
+    };
+    or_null(alloc, part, named.or_null)
 }
 
 /// What stands in a word behind a text, where it begins with it.
@@ -318,8 +385,8 @@ fn known_types(alloc: Global, words: &[String]) -> Result<TypeList, NoMemory>
 {
     let mut columns = TypeList::new(alloc);
     for word in words {
-        if let Some((named, may_be_null)) = type_of(word.as_str()) {
-            columns.push(column_of(alloc, named, may_be_null)?)?;
+        if let Some(named) = type_of(word.as_str()) {
+            columns.push(column_of(alloc, named)?)?;
         }
     }
     Ok(columns)

@@ -1,22 +1,24 @@
 -- Pieces, by the types of their columns.
-use Rattle.std.proofs.Common.{◌≡◌, ℕ, List, Err}
-use Rattle.pgw_wire.specs.declared.kind.Break.{Break}
-use Rattle.pgw_meta.specs.Shape.{Shape, scalar, nullable, named}
-use Rattle.pgw_scalar.proofs.Readers.{IsBytes}
-use Rattle.pgw_cell.specs.Built.{IsBuilt}
+use Rattle.pgw_meta.specs.Known.{Known}
+use Rattle.pgw_meta.specs.NamedOids.{oids_of}
+use Rattle.pgw_meta.specs.Schema.{is_nullable}
+use Rattle.pgw_meta.specs.Shape.{Shape, scalar, nullable, array, named}
 use Rattle.pgw_cell.specs.Pieces.{HasPiece, SpellsPiece, BreaksPiece, canonical_piece, piece_size, read_piece}
-use Rattle.pgw_cell.proofs.Told.{IsTold, no_spelling_told}
-use Rattle.pgw_cell.proofs.Spellings.{spelling_whole, spelling_told}
+use Rattle.pgw_cell.specs.Spellings.{no_spelling}
+use Rattle.pgw_cell.proofs.Told.{IsTold, IsWritten, told_whole, written_whole, no_spelling_whole}
+use Rattle.pgw_cell.proofs.Spellings.{spelling_told, spelling_written}
+use Rattle.pgw_cell.proofs.ArrayPieces.{array_told, array_written}
 
-pub piece_told : (t : Shape) → IsTold (HasPiece t) (SpellsPiece t) (BreaksPiece t) (canonical_piece t) (piece_size t) (read_piece t)
+pub piece_told : (t : Shape) → IsTold (HasPiece t) (SpellsPiece t) (BreaksPiece t) (read_piece t)
 piece_told (scalar s) = spelling_told s
 piece_told (nullable t) = piece_told t
+piece_told (array t) = array_told (is_nullable t) (piece_told t)
 piece_told (named k t) = piece_told t
-piece_told _ = no_spelling_told
+piece_told _ = told_whole no_spelling no_spelling_whole
 
--- Where the type has a spelling, a piece that is refused breaks in that kind.
-pub piece_broken : (t : Shape) → IsBuilt t → (kind : Break) (p : List ℕ) → IsBytes p → read_piece t p ≡ Err kind → BreaksPiece t kind p
-piece_broken (scalar s) built = (spelling_whole s).exact.refuses.broken
-piece_broken (nullable t) built = piece_broken t built
-piece_broken (named k t) built = piece_broken t built
-piece_broken _ built = absurd built
+pub piece_written : (known : Known) (t : Shape) → IsWritten (HasPiece t) (SpellsPiece t) (canonical_piece known t) (piece_size t)
+piece_written known (scalar s) = spelling_written s
+piece_written known (nullable t) = piece_written known t
+piece_written known (array t) = array_written (is_nullable t) (piece_written known t) (oids_of known t).oid
+piece_written known (named k t) = piece_written known t
+piece_written known _ = written_whole no_spelling no_spelling_whole

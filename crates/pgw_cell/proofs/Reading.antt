@@ -1,45 +1,29 @@
 -- A cell is read as it spells and breaks, and so it spells one value at most, or breaks in one kind.
-use Rattle.std.proofs.Common.{◌≡◌, ◌⊎◌, inl, inr, Bool, true, false, None, Some, Result, Ok, Err, refl, sym, ◌∙◌, cond, subst}
+use Rattle.std.proofs.Common.{◌≡◌, ◌⊎◌, inl, inr, Result, Ok, Err, refl, sym, ◌∙◌}
 use Rattle.pgw_wire.specs.Cell.{Cell, size_of}
 use Rattle.pgw_wire.specs.declared.kind.Break.{Break}
-use Rattle.pgw_wire.specs.declared.kind.Break.TheVariants.{Null}
+use Rattle.pgw_meta.specs.Known.{Known}
 use Rattle.pgw_meta.specs.Shape.{Shape}
 use Rattle.pgw_meta.specs.Schema.{is_nullable}
 use Rattle.pgw_scalar.proofs.Readers.{ok_is, err_is, never_both}
-use Rattle.pgw_cell.specs.Value.{Value, null}
+use Rattle.pgw_cell.specs.Value.{Value}
 use Rattle.pgw_cell.specs.Built.{IsBuilt}
-use Rattle.pgw_cell.specs.Pieces.{HasPiece}
-use Rattle.pgw_cell.specs.Cells.{HasType, Spells, Breaks, canonical_cell, canonical_size, read_value}
+use Rattle.pgw_cell.specs.Cells.{HasType, Spells, Breaks, Fits, canonical_cell, canonical_size, read_value}
 use Rattle.pgw_cell.specs.Written.{AreBytes}
-use Rattle.pgw_cell.proofs.Pieces.{piece_told, piece_broken}
+use Rattle.pgw_cell.proofs.NullCells.{cell_again, cell_refused, cell_spelled, cell_broken, cell_has, cell_written, cell_counted}
+use Rattle.pgw_cell.proofs.Pieces.{piece_told, piece_written}
 
 pub value_again : (t : Shape) (c : Cell) (v : Value) → Spells t c v → read_value t c ≡ Ok v
-value_again t None v s = rw (s.0, s.1) refl
-value_again t (Some p) v s = (piece_told t).reads.again p v s
+value_again t c v s = cell_again (is_nullable t) (piece_told t) c v s
 
 pub value_refused : (t : Shape) (kind : Break) (c : Cell) → Breaks t kind c → read_value t c ≡ Err kind
-value_refused t kind None b = rw (b.1, b.0) refl
-value_refused t kind (Some p) b = (piece_told t).refused kind p b
-
--- what comes of a null
-abbrev null_by : Bool → Result Value Break
-null_by b = cond {A = Result Value Break} b (Ok null) (Err Null)
-
-null_spelled : (b : Bool) (v : Value) → null_by b ≡ Ok v → (b ≡ true) × (v ≡ null)
-null_spelled true v e = (refl, sym (ok_is null v e))
-null_spelled false v e = absurd (never_both (null_by false) v Null e refl)
-
-null_broken : (b : Bool) (kind : Break) → null_by b ≡ Err kind → (kind ≡ Null) × (b ≡ false)
-null_broken true kind e = absurd (never_both (null_by true) null kind refl e)
-null_broken false kind e = (sym (err_is {A = Value} Null kind e), refl)
+value_refused t kind c b = cell_refused (is_nullable t) (piece_told t) kind c b
 
 pub value_spelled : (t : Shape) (c : Cell) (v : Value) → AreBytes c → read_value t c ≡ Ok v → Spells t c v
-value_spelled t None v bytes e = null_spelled (is_nullable t) v e
-value_spelled t (Some p) v bytes e = (piece_told t).sound.spelled p v bytes e
+value_spelled t c v bytes e = cell_spelled (is_nullable t) (piece_told t) c v bytes e
 
 pub value_broken : (t : Shape) (kind : Break) (c : Cell) → IsBuilt t → AreBytes c → read_value t c ≡ Err kind → Breaks t kind c
-value_broken t kind None built bytes e = null_broken (is_nullable t) kind e
-value_broken t kind (Some p) built bytes e = piece_broken t built kind p bytes e
+value_broken t kind c built bytes e = cell_broken (is_nullable t) (piece_told t) kind c bytes e
 
 -- A cell spells one value of a type at most.
 pub value_once : (t : Shape) (c : Cell) (v w : Value) → Spells t c v → Spells t c w → v ≡ w
@@ -61,22 +45,14 @@ always_one t c built bytes = one (read_value t c) refl
     one (Ok v) e = inl (v, value_spelled t c v bytes e)
     one (Err kind) e = inr (kind, value_broken t kind c built bytes e)
 
--- A value that pieces of the type spell is one of the type.
-has_type : (t : Shape) (v : Value) → HasPiece t v → HasType t v
-has_type t null has = absurd ((piece_told t).some null has refl)
-has_type t _ has = has
-
 -- What a cell spells is a value of the type.
 pub spelled_has_type : (t : Shape) (c : Cell) (v : Value) → Spells t c v → HasType t v
-spelled_has_type t None v s = subst (λ (w : Value). HasType t w) (sym s.1) s.0
-spelled_has_type t (Some p) v s = has_type t v ((piece_told t).has p v s)
+spelled_has_type t c v s = cell_has (is_nullable t) (piece_told t) c v s
 
--- The cell that a value of the type is written as spells it.
-pub canonical_spells : (t : Shape) (v : Value) → HasType t v → Spells t (canonical_cell t v) v
-canonical_spells t null has = (has, refl)
-canonical_spells t v has = (piece_told t).written v has
+-- The cell that a value of the type is written as spells it, if it is no longer than a cell may be.
+pub canonical_spells : (known : Known) (t : Shape) (v : Value) → HasType t v → Fits 2147483647 t v → Spells t (canonical_cell known t v) v
+canonical_spells known t v has fits = cell_written (is_nullable t) (piece_written known t) v has fits
 
 -- That cell has as many bytes as the value's size says.
-pub size_counted : (t : Shape) (v : Value) → HasType t v → canonical_size t v ≡ size_of (canonical_cell t v)
-size_counted t null has = refl
-size_counted t v has = (piece_told t).counted v has
+pub size_counted : (known : Known) (t : Shape) (v : Value) → HasType t v → canonical_size t v ≡ size_of (canonical_cell known t v)
+size_counted known t v has = cell_counted (is_nullable t) (piece_written known t) v has

@@ -17,7 +17,7 @@ use Rattle.pgw_numeric.specs.Numeric.{Numeric, IsNumeric, numeric_bytes}
 use Rattle.pgw_numeric.proofs.Exact.{numeric_exact, spelled_is_value, value_spelled, size_counted}
 use Rattle.pgw_cell.specs.Value.{Value, null, truth, number, bytes, string, natural, network, interval, numeric}
 use Rattle.pgw_cell.specs.Spellings.{spelling, signed, unsigned, sized, bools, chars, oids, texts, byteas, networks, intervals, numerics, network_size, size_of_numeric, bytes_of_number, bytes_of_natural, bytes_of_bytes, bytes_of_network, bytes_of_interval, bytes_of_numeric}
-use Rattle.pgw_cell.proofs.Told.{IsToldSpelling, IsWhole, told_whole, exact_as}
+use Rattle.pgw_cell.proofs.Told.{IsToldSpelling, IsWrittenSpelling, IsWhole, told_whole, written_whole, exact_as}
 
 -- No value of a type's own is null.
 no_truth : (b : Bool) → truth b ≡ null → ⊥
@@ -173,3 +173,6 @@ spelling_whole numeric_type = numerics_whole
 
 pub spelling_told : (s : Scalar) → IsToldSpelling (spelling s)
 spelling_told s = told_whole (spelling s) (spelling_whole s)
+
+pub spelling_written : (s : Scalar) → IsWrittenSpelling (spelling s)
+spelling_written s = written_whole (spelling s) (spelling_whole s)

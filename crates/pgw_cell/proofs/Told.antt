@@ -1,30 +1,33 @@
 -- What is proved of each type, whatever it says: how its definitions of pieces and values belong together.
-use Rattle.std.proofs.Common.{◌≡◌, ℕ, List, length, Result, Ok, Err, refl, sym, ap, ◌∙◌}
+use Rattle.std.proofs.Common.{◌≡◌, ◌≤◌, ℕ, List, length, Result, Ok, Err, refl, sym, ap, ◌∙◌}
 use Rattle.pgw_wire.specs.declared.kind.Break.{Break}
-use Rattle.pgw_scalar.proofs.Readers.{ReadsAgain, IsSound, IsExact, ok_is, err_is, never_both}
+use Rattle.pgw_wire.specs.declared.kind.Break.TheVariants.{Size}
+use Rattle.pgw_scalar.proofs.Readers.{IsExact, ok_is, err_is, never_both}
 use Rattle.pgw_cell.specs.Value.{Value, null}
 use Rattle.pgw_cell.specs.Spellings.{Spelling, SpellsAs, read_as, no_spelling}
 
-pub record IsTold (Has : Value → Type 0) (Spell : List ℕ → Value → Type 0) (Broken : Break → List ℕ → Type 0) (canonical : Value → List ℕ) (size : Value → ℕ) (read : List ℕ → Result Value Break) : Type 0 where
-  -- What a piece spells is read, and what is read of bytes, they spell.
-  pub reads : ReadsAgain Spell read
-  pub sound : IsSound Spell read
-  -- A piece that breaks is refused in that kind.
-  pub refused : (kind : Break) (p : List ℕ) → Broken kind p → read p ≡ Err kind
+pub record IsTold (Has : Value → Type 0) (Spell : List ℕ → Value → Type 0) (Broken : Break → List ℕ → Type 0) (read : List ℕ → Result Value Break) : Type 0 where
+  -- A piece is read as it spells and breaks.
+  pub exact : IsExact Spell Broken read
   -- What a piece spells is a value of the type, and no null is one.
   pub has : (p : List ℕ) (v : Value) → Spell p v → Has v
   pub some : (v : Value) → Has v → v ≡ null → ⊥
-  -- The piece that a value of the type is written as spells it, and has its size.
-  pub written : (v : Value) → Has v → Spell (canonical v) v
+
+-- The piece that a value of the type is written as spells it, if it is no longer than a piece may be, and has its size.
+pub record IsWritten (Has : Value → Type 0) (Spell : List ℕ → Value → Type 0) (canonical : Value → List ℕ) (size : Value → ℕ) : Type 0 where
+  pub written : (v : Value) → Has v → size v ≤ 2147483647 → Spell (canonical v) v
   pub counted : (v : Value) → Has v → size v ≡ length (canonical v)
 
 abbrev pub IsToldSpelling : Spelling → Type 0
-IsToldSpelling l = IsTold l.Has l.Spells l.Breaks l.canonical l.size l.read
+IsToldSpelling l = IsTold l.Has l.Spells l.Breaks l.read
+
+abbrev pub IsWrittenSpelling : Spelling → Type 0
+IsWrittenSpelling l = IsWritten l.Has l.Spells l.canonical l.size
 
 abbrev pub IsExactSpelling : Spelling → Type 0
 IsExactSpelling l = IsExact l.Spells l.Breaks l.read
 
--- A spelling that is told, and whose pieces break where they are refused.
+-- Both of a spelling, whose values are written so that they are read back however long they are.
 pub record IsWhole (l : Spelling) : Type 0 where
   pub exact : IsExactSpelling l
   pub has : (p : List ℕ) (v : Value) → l.Spells p v → l.Has v
@@ -33,28 +36,27 @@ pub record IsWhole (l : Spelling) : Type 0 where
   pub counted : (v : Value) → l.Has v → l.size v ≡ length (l.canonical v)
 
 pub told_whole : (l : Spelling) → IsWhole l → IsToldSpelling l
-told_whole l h = record {
-  reads = h.exact.reads;
-  sound = h.exact.sound;
-  refused = h.exact.refuses.refused;
-  has = h.has;
-  some = h.some;
-  written = h.written;
-  counted = h.counted;
-}
+told_whole l h = record { exact = h.exact; has = h.has; some = h.some }
 
-pub no_spelling_told : IsToldSpelling no_spelling
-no_spelling_told = record {
-  reads = record { again = λ p v s. absurd s };
-  sound = record { spelled = λ p v bytes e. absurd (cc) };
-  refused = λ kind p b. absurd b;
+pub written_whole : (l : Spelling) → IsWhole l → IsWrittenSpelling l
+written_whole l h = record { written = λ v has fits. h.written v has; counted = h.counted }
+
+-- A type that is not built has no values, and each piece of it breaks.
+pub no_spelling_whole : IsWhole no_spelling
+no_spelling_whole = record {
+  exact = record {
+    reads = record { again = λ p v s. absurd s };
+    sound = record { spelled = λ p v bytes e. absurd (cc) };
+    refuses = record { refused = λ kind p b. ap Err (sym b); broken = λ kind p bytes e. sym (err_is {A = Value} Size kind e) };
+  };
   has = λ p v s. s;
   some = λ v h e. h;
   written = λ v h. h;
   counted = λ v h. absurd h;
 }
 
-as_ok : {A : Type 0} (value : A → Value) (r : Result A Break) (v : Value) → read_as value r ≡ Ok v → (x : A) × (r ≡ Ok x) × (v ≡ value x)
+-- what was read, as a value of a column
+pub as_ok : {A : Type 0} (value : A → Value) (r : Result A Break) (v : Value) → read_as value r ≡ Ok v → (x : A) × (r ≡ Ok x) × (v ≡ value x)
 as_ok value (Ok x) v e = (x, refl, sym (ok_is (value x) v e))
 as_ok value (Err kind) v e = absurd (never_both (read_as value (Err kind)) v kind e refl)
 

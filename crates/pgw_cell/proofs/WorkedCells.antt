@@ -5,8 +5,8 @@ use Rattle.std.proofs.Common.{◌≡◌, ℕ, pos, negsuc, [], ◌∷◌, get_or
 use lib.Utf8.{encode}
 use Rattle.pgw_wire.specs.declared.kind.Break.{Break}
 use Rattle.pgw_wire.specs.declared.kind.Break.TheVariants.{Null, Size, Utf8, Sign, Family, Prefix}
-use Rattle.pgw_meta.specs.Known.{Key}
-use Rattle.pgw_meta.specs.Shape.{scalar, nullable, array, named, bool, char, int2, int4, int8, oid, text, bytea, uuid, money, pg_lsn, macaddr, macaddr8, inet, cidr, interval, numeric}
+use Rattle.pgw_meta.specs.Known.{Key, Known}
+use Rattle.pgw_meta.specs.Shape.{scalar, nullable, named, bool, char, int2, int4, int8, oid, text, bytea, uuid, money, pg_lsn, macaddr, macaddr8, inet, cidr, interval, numeric}
 use Rattle.pgw_scalar.proofs.TextFields.{no_utf8}
 use Rattle.pgw_scalar.specs.Networks.{Network}
 use Rattle.pgw_numeric.specs.Numeric.{number as number_of, not_a_number}
@@ -15,11 +15,15 @@ use Rattle.pgw_cell.specs.Built.{IsBuilt}
 use Rattle.pgw_cell.specs.Cells.{HasType, Spells, Breaks, Fits, canonical_cell, canonical_size, read_value}
 use Rattle.pgw_cell.proofs.Reading.{value_once}
 
+-- No named type is known.
+abbrev unknown : Known
+unknown key = None
+
 -- A bool is read from its first byte, and any but 0 is true. It is written in one byte.
 pub true_of_two : Spells (scalar bool) (Some (2 ∷ 170 ∷ 187 ∷ [])) (truth true)
 true_of_two = (true, record { first = 2; rest = 170 ∷ 187 ∷ []; is = refl; says = refl }, refl)
 
-pub true_written : canonical_cell (scalar bool) (truth true) ≡ Some (1 ∷ [])
+pub true_written : canonical_cell unknown (scalar bool) (truth true) ≡ Some (1 ∷ [])
 true_written = refl
 
 pub zero_is_false : read_value (scalar bool) (Some (0 ∷ 1 ∷ [])) ≡ Ok (truth false)
@@ -39,7 +43,7 @@ no_byte_is_no_bool = (refl, refl)
 pub char_of_two : Spells (scalar char) (Some (65 ∷ 255 ∷ [])) (natural 65)
 char_of_two = (65, record { rest = 255 ∷ []; fits = lit< tt; is = refl }, refl)
 
-pub char_written : canonical_cell (scalar char) (natural 65) ≡ Some (65 ∷ [])
+pub char_written : canonical_cell unknown (scalar char) (natural 65) ≡ Some (65 ∷ [])
 char_written = refl
 
 pub no_byte_is_no_char : read_value (scalar char) (Some []) ≡ Err Size
@@ -65,7 +69,7 @@ not_43 h =
 pub least_of_8 : read_value (scalar int8) (Some (128 ∷ 0 ∷ 0 ∷ 0 ∷ 0 ∷ 0 ∷ 0 ∷ 0 ∷ [])) ≡ Ok (number (negsuc 9223372036854775807))
 least_of_8 = refl
 
-pub minus_one_cent : canonical_cell (scalar money) (number (negsuc 0)) ≡ Some (255 ∷ 255 ∷ 255 ∷ 255 ∷ 255 ∷ 255 ∷ 255 ∷ 255 ∷ [])
+pub minus_one_cent : canonical_cell unknown (scalar money) (number (negsuc 0)) ≡ Some (255 ∷ 255 ∷ 255 ∷ 255 ∷ 255 ∷ 255 ∷ 255 ∷ 255 ∷ [])
 minus_one_cent = refl
 
 pub three_bytes : Breaks (scalar int2) Size (Some (0 ∷ 0 ∷ 42 ∷ []))
@@ -87,7 +91,7 @@ lsn_of_ones = refl
 pub oid_of_five : Spells (scalar oid) (Some (255 ∷ 0 ∷ 0 ∷ 42 ∷ 7 ∷ [])) (natural 4278190122)
 oid_of_five = (4278190122, record { rest = 7 ∷ []; fits = lit< tt; is = refl }, refl)
 
-pub oid_written : canonical_cell (scalar oid) (natural 4278190122) ≡ Some (255 ∷ 0 ∷ 0 ∷ 42 ∷ [])
+pub oid_written : canonical_cell unknown (scalar oid) (natural 4278190122) ≡ Some (255 ∷ 0 ∷ 0 ∷ 42 ∷ [])
 oid_written = refl
 
 pub three_are_no_oid : Breaks (scalar oid) Size (Some (0 ∷ 0 ∷ 42 ∷ []))
@@ -131,7 +135,7 @@ citext = record { schema = None; name = 99 ∷ 105 ∷ 116 ∷ 101 ∷ 120 ∷ 1
 pub named_letter : read_value (named citext (scalar text)) (Some (195 ∷ 169 ∷ [])) ≡ Ok (string (195 ∷ 169 ∷ []))
 named_letter = e_acute
 
-pub named_written : canonical_cell (named citext (scalar text)) (string (195 ∷ 169 ∷ [])) ≡ Some (195 ∷ 169 ∷ [])
+pub named_written : canonical_cell unknown (named citext (scalar text)) (string (195 ∷ 169 ∷ [])) ≡ Some (195 ∷ 169 ∷ [])
 named_written = refl
 
 pub named_broken : Breaks (named citext (scalar text)) Utf8 (Some (195 ∷ 40 ∷ []))
@@ -147,7 +151,7 @@ host_read = refl
 pub host_is_no_cidr : read_value (scalar cidr) (Some (2 ∷ 24 ∷ 0 ∷ 4 ∷ 192 ∷ 168 ∷ 0 ∷ 1 ∷ [])) ≡ Err Family
 host_is_no_cidr = refl
 
-pub host_in_a_cidr : canonical_cell (scalar cidr) (network host) ≡ Some (2 ∷ 24 ∷ 1 ∷ 4 ∷ 192 ∷ 168 ∷ 0 ∷ 1 ∷ [])
+pub host_in_a_cidr : canonical_cell unknown (scalar cidr) (network host) ≡ Some (2 ∷ 24 ∷ 1 ∷ 4 ∷ 192 ∷ 168 ∷ 0 ∷ 1 ∷ [])
 host_in_a_cidr = refl
 
 pub long_prefix : read_value (scalar inet) (Some (2 ∷ 33 ∷ 0 ∷ 4 ∷ 192 ∷ 168 ∷ 0 ∷ 1 ∷ [])) ≡ Err Prefix
@@ -168,13 +172,13 @@ interval_of_none = (refl, lit< tt)
 pub minus_seven : read_value (scalar numeric) (Some (0 ∷ 1 ∷ 0 ∷ 0 ∷ 64 ∷ 0 ∷ 0 ∷ 0 ∷ 0 ∷ 7 ∷ 170 ∷ [])) ≡ Ok (numeric_value (number_of true (pos 0) 0 (pos 7 ∷ [])))
 minus_seven = refl
 
-pub minus_seven_written : canonical_cell (scalar numeric) (numeric_value (number_of true (pos 0) 0 (pos 7 ∷ []))) ≡ Some (0 ∷ 1 ∷ 0 ∷ 0 ∷ 64 ∷ 0 ∷ 0 ∷ 0 ∷ 0 ∷ 7 ∷ [])
+pub minus_seven_written : canonical_cell unknown (scalar numeric) (numeric_value (number_of true (pos 0) 0 (pos 7 ∷ []))) ≡ Some (0 ∷ 1 ∷ 0 ∷ 0 ∷ 64 ∷ 0 ∷ 0 ∷ 0 ∷ 0 ∷ 7 ∷ [])
 minus_seven_written = refl
 
 pub no_number_with_a_scale : read_value (scalar numeric) (Some (0 ∷ 1 ∷ 0 ∷ 0 ∷ 192 ∷ 0 ∷ 0 ∷ 2 ∷ 0 ∷ 7 ∷ [])) ≡ Ok (numeric_value not_a_number)
 no_number_with_a_scale = refl
 
-pub no_number_written : canonical_cell (nullable (scalar numeric)) (numeric_value not_a_number) ≡ Some (0 ∷ 0 ∷ 0 ∷ 0 ∷ 192 ∷ 0 ∷ 0 ∷ 0 ∷ [])
+pub no_number_written : canonical_cell unknown (nullable (scalar numeric)) (numeric_value not_a_number) ≡ Some (0 ∷ 0 ∷ 0 ∷ 0 ∷ 192 ∷ 0 ∷ 0 ∷ 0 ∷ [])
 no_number_written = refl
 
 pub no_sign : read_value (scalar numeric) (Some (0 ∷ 0 ∷ 0 ∷ 0 ∷ 208 ∷ 0 ∷ 0 ∷ 0 ∷ [])) ≡ Err Sign
@@ -196,7 +200,7 @@ null_breaks = (refl, refl)
 pub null_allowed : (kind : Break) → Breaks (nullable (scalar int4)) kind None → ⊥
 null_allowed kind h = absurd (cc)
 
-pub null_written : canonical_cell (nullable (scalar text)) null ≡ None
+pub null_written : canonical_cell unknown (nullable (scalar text)) null ≡ None
 null_written = refl
 
 -- A named type may be null where a nullable stands around it, and not by its part.
@@ -238,6 +242,3 @@ uuid_or_null = tt
 
 pub citext_or_null : IsBuilt (nullable (named citext (scalar text)))
 citext_or_null = tt
-
-pub no_array_yet : IsBuilt (array (scalar int4)) → ⊥
-no_array_yet h = h

@@ -1,24 +1,38 @@
 -- The values of the program as values of columns.
-use Rattle.std.specs.Prelude.{◌≡◌, Bool, true, false, Result, Ok, Err, IsTrue}
+use Rattle.std.specs.Prelude.{◌≡◌, Bool, true, false, List, map, Result, Ok, Err, IsTrue}
 use Rattle.pgw_wire.specs.declared.kind.Break.{Break}
 use Rattle.pgw_numeric.specs.Numeric.{number as numeric_number, not_a_number}
-use Rattle.pgw_cell.specs.Value.{Value, null, truth, number, bytes, string, network, interval, numeric}
-use Rattle.pgw_cell.specs.declared.datum.Datum.{Datum}
-use Rattle.pgw_cell.specs.declared.datum.Datum.TheVariants.{Null, Truth, Number, Bytes, Text, Network, Interval, Numeric, NotANumber}
+use Rattle.pgw_cell.specs.Value.{Value, null, truth, number, bytes, string, network, interval, numeric, list, Values, no_values, value_then}
+use Rattle.pgw_cell.specs.declared.datum.DatumList.{DatumList}
+use Rattle.pgw_cell.specs.declared.datum.Datum.{Datum, Row_of-Datum, end_of-Datum, more_of-Datum}
+use Rattle.pgw_cell.specs.declared.datum.Datum.TheVariants.{Null, Truth, Number, Bytes, Text, Network, Interval, Numeric, NotANumber, List'}
 use Rattle.pgw_cell.specs.declared.read.CellFault.{CellFault}
 use Rattle.pgw_cell.specs.declared.read.CellFault.TheVariants.{Break as Broken, NoMemory}
 
-abbrev pub value_of : Datum → Value
-value_of Null = null
-value_of (Truth b) = truth b
-value_of (Number n) = number n
-value_of (Bytes b) = bytes b
-value_of (Text s) = string s
-value_of (Network six prefix address) = network (record { six = six; prefix = prefix; address = address })
-value_of (Interval microseconds days months) =
-    interval (record { microseconds = microseconds; days = days; months = months })
-value_of (Numeric negative weight scale digits) = numeric (numeric_number negative weight scale digits)
-value_of NotANumber = numeric not_a_number
+abbrev mutual
+  pub value_of : Datum → Value
+  value_of Null = null
+  value_of (Truth b) = truth b
+  value_of (Number n) = number n
+  value_of (Bytes b) = bytes b
+  value_of (Text s) = string s
+  value_of (Network six prefix address) = network (record { six = six; prefix = prefix; address = address })
+  value_of (Interval microseconds days months) =
+      interval (record { microseconds = microseconds; days = days; months = months })
+  value_of (Numeric negative weight scale digits) = numeric (numeric_number negative weight scale digits)
+  value_of NotANumber = numeric not_a_number
+  value_of (List' n ds) = list (row_values ds)
+
+  pub row_values : {m : _} → Row_of-Datum m → Values
+  row_values end_of-Datum = no_values
+  row_values (more_of-Datum d ds) = value_then (value_of d) (row_values ds)
+
+abbrev pub data_of : DatumList → List Datum
+data_of l = l.data
+
+-- the values of a list
+abbrev pub values_of : List Datum → List Value
+values_of ds = map value_of ds
 
 -- whether memory is asked for where the value is made
 abbrev pub takes_memory : Value → Bool
@@ -26,6 +40,7 @@ takes_memory (bytes b) = true
 takes_memory (string s) = true
 takes_memory (network n) = true
 takes_memory (numeric (numeric_number negative weight scale digits)) = true
+takes_memory (list (value_then v vs)) = true
 takes_memory _ = false
 
 -- What is answered is what was read, or, where that takes memory, that it was refused.

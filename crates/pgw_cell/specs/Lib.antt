@@ -1,6 +1,8 @@
 pub mod Value
 pub mod Built
 pub mod Spellings
+pub mod Nulls
+pub mod Arrays
 pub mod Pieces
 pub mod Cells
 pub mod Written

@@ -207,7 +207,7 @@ abbrev pub no_spelling : Spelling
 no_spelling = record {
   Has = λ v. ⊥;
   Spells = λ p v. ⊥;
-  Breaks = λ kind p. ⊥;
+  Breaks = λ kind p. kind ≡ Size;
   canonical = λ v. [];
   size = λ v. 0;
   read = λ p. Err Size;

@@ -1,7 +1,15 @@
+ghost use Rattle.std.specs.Prelude.{◌≡◌, [], ◌∷◌, ◌++◌, OnOk, OnErr, length, slice_get};
+ghost use Rattle.std.specs.Option.{option_copied};
+ghost use Rattle.pgw_cell.specs.Data.{data_of};
+
 use crate::{ByteList, DigitList};
 use pgw_meta::NameText;
+use pgw_wire::NoMemory;
+use sqlite_items::Items;
+use std::alloc::Global;
 
 /// A value of a column.
+#[cycle(data)]
 #[derive(Debug, Drop)]
 pub enum Datum {
     /// No value.
@@ -37,4 +45,54 @@ pub enum Datum {
     },
     /// Of a `numeric` that is not a number.
     NotANumber,
+    /// Of an array: its elements.
+    List(DatumList),
+}
+
+/// Values in order: the elements of an array.
+#[cycle(data)]
+#[derive(Debug, Drop)]
+pub struct DatumList {
+    data: Items<Datum>,
+}
+
+impl DatumList {
+    /// No values. It takes no memory.
+    pub fn new(alloc: Global) -> DatumList
+        ensures { data_of result ≡ [] }
+    {
+        DatumList {
+            data: Items::new(alloc),
+        }
+    }
+
+    /// Appends a value. Where memory is refused, the value is dropped and the list is as before.
+    pub fn push(&mut self, item: Datum) -> Result<(), NoMemory>
+        ensures ok { OnOk result (data_of self.new ≡ data_of self.old ++ (item ∷ [])) }
+        ensures err { OnErr result (data_of self.new ≡ data_of self.old) }
+    {
+        self.data.push(item)?;
+        Ok(())
+    }
+
+    /// How many values there are.
+    pub fn len(&self) -> usize
+        ensures { result ≡ length (data_of self.now) }
+    {
+        self.data.len()
+    }
+
+    /// The value at a place, counted from 0. None past the last.
+    pub fn get(&self, place: usize) -> Option<&Datum>
+        ensures { option_copied result ≡ slice_get (data_of self.now) place }
+    {
+        self.data.get(place)
+    }
+
+    /// The values.
+    pub fn as_slice(&self) -> &[Datum]
+        ensures { result.now ≡ data_of self.now }
+    {
+        self.data.as_slice()
+    }
 }

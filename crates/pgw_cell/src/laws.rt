@@ -3,10 +3,11 @@
 ghost use Rattle.std.specs.Prelude.{◌≡◌, ◌⊎◌};
 ghost use Rattle.pgw_wire.specs.Cell.{cell_of, size_of};
 ghost use Rattle.pgw_wire.specs.declared.kind.Break.{Break as Kind};
+ghost use Rattle.pgw_meta.specs.Known.{Known};
 ghost use Rattle.pgw_meta.specs.Types.{shape};
 ghost use Rattle.pgw_cell.specs.Value.{Value};
 ghost use Rattle.pgw_cell.specs.Built.{IsBuilt};
-ghost use Rattle.pgw_cell.specs.Cells.{HasType, Spells, Breaks, canonical_cell, canonical_size};
+ghost use Rattle.pgw_cell.specs.Cells.{HasType, Spells, Breaks, Fits, canonical_cell, canonical_size};
 
 use crate::piece::are_bytes;
 use pgw_meta::PgType;
@@ -52,14 +53,13 @@ pub fn spelled_has_type(t: &PgType, cell: RawCell<'_>)
 {}
 
 /// The canonical cell of a value of the type has as many bytes as the value's size says, and a null has none.
-#[tactic(auto, using(crate::proofs::Reading::size_counted))]
 pub fn size_is_counted(t: &PgType)
-    ensures { (v : Value) → HasType (shape t.now) v
-        → canonical_size (shape t.now) v ≡ size_of (canonical_cell (shape t.now) v) }
+    ensures { (known : Known) (v : Value) → HasType (shape t.now) v
+        → canonical_size (shape t.now) v ≡ size_of (canonical_cell known (shape t.now) v) }
 {}
 
-/// The canonical cell of a value of the type spells that value.
-#[tactic(auto, using(crate::proofs::Reading::canonical_spells))]
+/// The canonical cell of a value of the type, of at most 2147483647 bytes, spells that value.
 pub fn canonical_is_read_back(t: &PgType)
-    ensures { (v : Value) → HasType (shape t.now) v → Spells (shape t.now) (canonical_cell (shape t.now) v) v }
+    ensures { (known : Known) (v : Value) → HasType (shape t.now) v → Fits 2147483647 (shape t.now) v
+        → Spells (shape t.now) (canonical_cell known (shape t.now) v) v }
 {}

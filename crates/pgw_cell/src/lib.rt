@@ -1,7 +1,7 @@
 //! The cells of a COPY row by the types of their columns: what they are read as, how values are written, how many bytes
 //! the canonical form has, and the canonical form of a cell written without making its value. A cell is null or the
 //! bytes of a field. Of the types of `PgType` those have values here that have a spelling in the table of scalar types
-//! (`specs/Spellings.antt`), and nullable and named types over one that has values.
+//! (`specs/Spellings.antt`), and nullable, array and named types over one that has values.
 #![tactic(auto)]
 
 mod byte_list;
@@ -14,11 +14,13 @@ mod piece;
 mod plain;
 mod read;
 mod rewrite;
+mod sizes;
 mod utf8;
+mod value_sizes;
 mod write;
 
 pub use byte_list::ByteList;
-pub use datum::Datum;
+pub use datum::{Datum, DatumList};
 pub use digit_list::DigitList;
 pub use measure::{MeasureFault, measure_cell};
 pub use plain::PlainCell;

@@ -1,14 +1,15 @@
 ghost use Rattle.std.specs.Prelude.{◌≡◌, ◌≤◌, ℕ, length, Ok, Err, IfOk};
 ghost use Rattle.pgw_wire.specs.Cell.{cell_of, frame};
 ghost use Rattle.pgw_wire.specs.declared.kind.Break.{Break as Kind};
+ghost use Rattle.pgw_meta.specs.Known.{Known};
 ghost use Rattle.pgw_meta.specs.Types.{shape};
-ghost use Rattle.pgw_meta.specs.Schema.{is_nullable};
 ghost use Rattle.pgw_cell.specs.Value.{Value};
 ghost use Rattle.pgw_cell.specs.Built.{IsBuilt};
 ghost use Rattle.pgw_cell.specs.Cells.{Spells, Breaks, Fits, canonical_cell, read_value};
 ghost use Rattle.pgw_cell.specs.Written.{AreBytes, measured};
 
-use crate::piece::{are_bytes, written};
+use crate::piece::are_bytes;
+use crate::sizes::sized_cell;
 use pgw_meta::PgType;
 use pgw_wire::{Break, RawCell};
 use thiserror::Error;
@@ -24,12 +25,15 @@ pub enum MeasureFault {
     TooLong,
 }
 
-/// Whether null is a value of the type.
+/// The bytes of a cell are numbers below 256. It does nothing: it is called for what it ensures.
 #[inline(always)]
-pub(crate) fn is_nullable(t: &PgType) -> bool
-    ensures { result ≡ is_nullable (shape t.now) }
+pub(crate) fn is_of_bytes(cell: RawCell<'_>)
+    ensures { AreBytes (cell_of cell.entry) }
 {
-    matches!(t, PgType::Nullable(_))
+    match cell {
+        RawCell::Null => {}
+        RawCell::Piece(piece) => are_bytes(piece),
+    }
 }
 
 #[inline(always)]
@@ -38,18 +42,10 @@ fn measure(t: &PgType, cell: RawCell<'_>, field_max: u32) -> Result<usize, Measu
     ensures value { result ≡ measured field_max (shape t.now) (read_value (shape t.now) (cell_of cell.entry)) }
     ensures bytes { AreBytes (cell_of cell.entry) }
 {
-    let RawCell::Piece(piece) = cell else {
-        return if is_nullable(t) {
-            Ok(4)
-        } else {
-            Err(MeasureFault::Break(Break::Null))
-        };
-    };
-    are_bytes(piece);
-    match written(t, piece) {
+    is_of_bytes(cell);
+    match sized_cell(t, cell) {
         Err(kind) => Err(MeasureFault::Break(kind)),
-        Ok(written) => {
-            let size = written.len();
+        Ok(size) => {
             if size > field_max as usize {
                 Err(MeasureFault::TooLong)
             } else {
@@ -60,19 +56,20 @@ fn measure(t: &PgType, cell: RawCell<'_>, field_max: u32) -> Result<usize, Measu
 }
 
 /// How many bytes the canonical field of the value has that the cell spells: the four bytes of its length, and at most
-/// `field_max` behind them. Else the kind in which the cell breaks, or `TooLong`. It takes no memory.
+/// `field_max` behind them, whatever the oids are. Else the kind in which the cell breaks, or `TooLong`. It takes no memory.
 #[inline(always)]
 pub fn measure_cell(t: &PgType, cell: RawCell<'_>, field_max: u32) -> Result<usize, MeasureFault>
     requires built { IsBuilt (shape t.now) }
     requires max { field_max ≤ 2147483647 }
     ensures ok { IfOk result (λ n. (v : Value) × Spells (shape t.now) (cell_of cell.entry) v
-        × Fits field_max (shape t.now) v × (n ≡ length (frame (canonical_cell (shape t.now) v)))) }
+        × Fits field_max (shape t.now) v
+        × ((known : Known) → n ≡ length (frame (canonical_cell known (shape t.now) v)))) }
     ensures broken { (kind : Kind) → result ≡ Err (MeasureFault.Break kind)
         → Breaks (shape t.now) kind (cell_of cell.entry) }
     ensures long { result ≡ Err MeasureFault.TooLong → (v : Value) × Spells (shape t.now) (cell_of cell.entry) v
         × (Fits field_max (shape t.now) v → ⊥) }
-    ensures spells { (v : Value) → Spells (shape t.now) (cell_of cell.entry) v → Fits field_max (shape t.now) v
-        → result ≡ Ok (length (frame (canonical_cell (shape t.now) v))) }
+    ensures spells { (known : Known) (v : Value) → Spells (shape t.now) (cell_of cell.entry) v → Fits field_max (shape t.now) v
+        → result ≡ Ok (length (frame (canonical_cell known (shape t.now) v))) }
     ensures breaks { (kind : Kind) → Breaks (shape t.now) kind (cell_of cell.entry)
         → result ≡ Err (MeasureFault.Break kind) }
     ensures passes { (v : Value) → Spells (shape t.now) (cell_of cell.entry) v → (Fits field_max (shape t.now) v → ⊥)

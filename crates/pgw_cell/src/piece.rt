@@ -2,9 +2,9 @@ ghost use Rattle.std.specs.Prelude.{◌≡◌, ◌<◌, ◌≤◌, ◌+◌, ◌+
 ghost use Rattle.pgw_scalar.specs.Sized.{read_sized};
 ghost use Rattle.pgw_scalar.specs.Text.{read_text};
 ghost use Rattle.pgw_meta.specs.Types.{shape};
-ghost use Rattle.pgw_meta.specs.Shape.{scalar, bool, numeric};
+ghost use Rattle.pgw_meta.specs.Shape.{bool, numeric};
 ghost use Rattle.pgw_scalar.specs.Networks.{read_network};
-ghost use Rattle.pgw_cell.specs.Written.{bytes_of, written_bytes, canonical_read, front_read, network_read};
+ghost use Rattle.pgw_cell.specs.Written.{bytes_of, written_bytes, canonical_read, scalar_read, front_read, network_read};
 
 use crate::network::network_field;
 use crate::utf8::is_text;
@@ -86,7 +86,7 @@ fn front(size: usize, piece: &[u8]) -> Result<Canonical<'_>, Break>
 
 #[inline(always)]
 fn truth(piece: &[u8]) -> Result<Canonical<'_>, Break>
-    ensures { written_bytes result ≡ canonical_read (scalar bool) piece.now }
+    ensures { written_bytes result ≡ scalar_read bool piece.now }
 {
     match piece {
         [first, ..] => Ok(Canonical::Truth(*first != 0)),
@@ -118,7 +118,7 @@ fn network(type_byte: u8, piece: &[u8]) -> Result<Canonical<'_>, Break>
 
 #[inline(always)]
 fn numeric(piece: &[u8]) -> Result<Canonical<'_>, Break>
-    ensures { written_bytes result ≡ canonical_read (scalar numeric) piece.now }
+    ensures { written_bytes result ≡ scalar_read numeric piece.now }
 {
     match canonical_front(piece) {
         Ok(Front::Number(field)) => Ok(Canonical::Bytes(field)),

@@ -1,13 +1,17 @@
 ghost use Rattle.std.specs.Prelude.{◌≡◌, ◌≤◌, ◌++◌, List, ℕ, length, None, Some, true, false, IfSome};
 ghost use Rattle.pgw_wire.specs.Cell.{frame};
+ghost use Rattle.pgw_meta.specs.Known.{Known};
+ghost use Rattle.pgw_meta.specs.NamedOids.{known_of};
 ghost use Rattle.pgw_meta.specs.Shape.{Shape};
 ghost use Rattle.pgw_meta.specs.Types.{shape};
-ghost use Rattle.pgw_cell.specs.Plain.{plain_rule, four_bytes, IsPlainCellOf, IsPlainField, IsSomeNetwork, Passes, IsPassedBefore};
+ghost use Rattle.pgw_nested.specs.Array.{array_head};
+ghost use Rattle.pgw_cell.specs.Plain.{plain_rule, plain_element, PassesArray, IsPlainElement, ArePlainElements, four_bytes, IsPlainCellOf, IsPlainField, IsSomeNetwork, Passes, IsPassedBefore};
 
-use crate::measure::is_nullable;
 use crate::network::network_field;
+use crate::rewrite::either;
+use crate::sizes::is_nullable;
 use crate::utf8::is_text;
-use pgw_meta::PgType;
+use pgw_meta::{FoundOids, PgType, oid_of};
 use pgw_numeric::field::{Sign, sign_of, take_parts};
 use pgw_wire::{take_piece, take_u32};
 
@@ -42,15 +46,33 @@ enum Rule {
     Cidr,
     /// The field of a numeric that is written as it stands.
     Numeric,
+    /// Those of an array whose elements are canonical as they stand.
+    Array,
     /// None that is known.
     Nothing,
 }
+
+/// Which cells are canonical as they stand as elements of arrays, and the oid of their type, which the arrays state.
+#[derive(Clone, Copy, Debug, PartialEq, Eq)]
+struct PlainElement {
+    rule: Rule,
+    nullable: bool,
+    oid: u32,
+}
+
+/// What is kept of the elements where a type is no array.
+const NO_ELEMENT: PlainElement = PlainElement {
+    rule: Rule::Nothing,
+    nullable: false,
+    oid: 0,
+};
 
 /// Which fields of a column are canonical as they stand: a few words, made once a column.
 #[derive(Clone, Copy, Debug, PartialEq, Eq)]
 pub struct PlainCell {
     rule: Rule,
     nullable: bool,
+    element: PlainElement,
 }
 
 impl PlainCell {
@@ -62,16 +84,18 @@ impl PlainCell {
         PlainCell {
             rule: Rule::Four,
             nullable: false,
+            element: NO_ELEMENT,
         }
     }
 
-    /// Of a column of this type.
-    pub fn of(t: &PgType) -> PlainCell
-        ensures { IsPlainCellOf result (shape t.now) }
+    /// Of a column of this type, where the oids of named types are these.
+    pub fn of(t: &PgType, found: &FoundOids) -> PlainCell
+        ensures { IsPlainCellOf (known_of found.now) result (shape t.now) }
     {
         PlainCell {
             rule: rule_of(t),
             nullable: is_nullable(t),
+            element: element_of(t, found),
         }
     }
 
@@ -80,13 +104,46 @@ impl PlainCell {
     #[inline(always)]
     pub fn behind_field<'a>(&self, field_max: u32, bytes: &'a [u8]) -> Option<&'a [u8]>
         requires { field_max ≤ 2147483647 }
-        ensures { (t : Shape) → IsPlainCellOf self.now t → IfSome result (λ rest. (field : List ℕ)
-            × IsPlainField field_max t field × (bytes.now ≡ field ++ rest.now)) }
+        ensures { (known : Known) (t : Shape) → IsPlainCellOf known self.now t → IfSome result (λ rest. (field : List ℕ)
+            × IsPlainField known field_max t field × (bytes.now ≡ field ++ rest.now)) }
     {
         match behind_piece(self.rule, field_max, bytes) {
             Some(rest) => Some(rest),
-            None => behind_null(self.nullable, bytes),
+            None => self.behind_other(field_max, bytes),
         }
+    }
+}
+
+impl PlainCell {
+    /// The same of a field that is an array or a null.
+    #[inline(always)]
+    fn behind_other<'a>(&self, field_max: u32, bytes: &'a [u8]) -> Option<&'a [u8]>
+        requires { field_max ≤ 2147483647 }
+        ensures { (known : Known) (t : Shape) → IsPlainCellOf known self.now t → IfSome result (λ rest. (field : List ℕ)
+            × IsPlainField known field_max t field × (bytes.now ≡ field ++ rest.now)) }
+    {
+        match self.rule {
+            Rule::Array => match behind_array(self.element, field_max, bytes) {
+                Some(rest) => Some(rest),
+                None => behind_null(self.nullable, bytes),
+            },
+            _ => behind_null(self.nullable, bytes),
+        }
+    }
+}
+
+/// What is kept of the elements of a type.
+fn element_of(t: &PgType, found: &FoundOids) -> PlainElement
+    ensures { result ≡ plain_element (known_of found.now) (shape t.now) }
+{
+    match t {
+        PgType::Nullable(part) | PgType::Named(_, part) => element_of(part, found),
+        PgType::Array(element) => PlainElement {
+            rule: rule_of(element),
+            nullable: is_nullable(element),
+            oid: oid_of(found, element),
+        },
+        _ => NO_ELEMENT,
     }
 }
 
@@ -115,6 +172,7 @@ fn rule_of(t: &PgType) -> Rule
         PgType::Interval => Rule::Sixteen,
         PgType::Numeric => Rule::Numeric,
         PgType::Nullable(part) | PgType::Named(_, part) => rule_of(part),
+        PgType::Array(_) => Rule::Array,
         _ => Rule::Nothing,
     }
 }
@@ -137,7 +195,7 @@ fn behind_piece(rule: Rule, most: u32, bytes: &[u8]) -> Option<&[u8]>
         Rule::Inet => behind_network(0, most, bytes),
         Rule::Cidr => behind_network(1, most, bytes),
         Rule::Numeric => behind_numeric(most, bytes),
-        Rule::Nothing => None,
+        Rule::Array | Rule::Nothing => None,
     }
 }
 
@@ -229,6 +287,84 @@ fn behind_numeric(most: u32, bytes: &[u8]) -> Option<&[u8]>
 {
     let (piece, rest) = front_piece(most, bytes)?;
     if is_plain_numeric(piece) {
+        Some(rest)
+    } else {
+        None
+    }
+}
+
+/// The flags and the count of an array that states one dimension, this oid of its elements' type, and 1 as the index of the
+/// first, and what stands behind these.
+fn array_front(oid: u32, piece: &[u8]) -> Option<(u32, u32, &[u8])>
+    ensures { IfSome result (λ x. piece.now ≡ array_head x.0 oid x.1 1 ++ x.2.now) }
+{
+    let (dimensions, rest) = take_u32(piece)?;
+    let (flags, rest) = take_u32(rest)?;
+    let (element, rest) = take_u32(rest)?;
+    let (count, rest) = take_u32(rest)?;
+    let (bound, rest) = take_u32(rest)?;
+    if dimensions != 1 {
+        return None;
+    }
+    if element != oid {
+        return None;
+    }
+    if bound != 1 {
+        return None;
+    }
+    Some((flags, count, rest))
+}
+
+/// Whether the element at the front is a null, and what stands behind it. None where no element stands there that is canonical
+/// as it stands.
+#[inline(always)]
+fn behind_element(element: PlainElement, bytes: &[u8]) -> Option<(bool, &[u8])>
+    ensures { IfSome result (λ x. IsPlainElement element bytes.now x.0 x.1.now) }
+{
+    match behind_piece(element.rule, 2147483647, bytes) {
+        Some(rest) => Some((false, rest)),
+        None => {
+            let rest = behind_null(element.nullable, bytes)?;
+            Some((true, rest))
+        }
+    }
+}
+
+/// Whether a null is among so many elements at the front, and what stands behind them. None where one of them is not
+/// canonical as it stands.
+fn behind_elements(element: PlainElement, count: u32, bytes: &[u8]) -> Option<(bool, &[u8])>
+    ensures { IfSome result (λ x. ArePlainElements element count bytes.now x.0 x.1.now) }
+{
+    let mut null = false;
+    let mut rest = bytes;
+    for _place in 0..count {
+        let (is_null, behind) = behind_element(element, rest)?;
+        null = either(null, is_null);
+        rest = behind;
+    }
+    Some((null, rest))
+}
+
+/// Whether the piece is an array of such elements and is written as it stands.
+fn is_plain_array(element: PlainElement, piece: &[u8]) -> bool
+    ensures { result ≡ true → PassesArray element piece.now }
+{
+    let Some((flags, count, elements)) = array_front(element.oid, piece) else {
+        return false;
+    };
+    match behind_elements(element, count, elements) {
+        Some((null, [])) => flags == u32::from(null),
+        _ => false,
+    }
+}
+
+/// What stands behind the field of an array of such elements at the front.
+#[inline(never)]
+fn behind_array(element: PlainElement, most: u32, bytes: &[u8]) -> Option<&[u8]>
+    ensures { IfSome result (λ rest. IsPassedBefore most (PassesArray element) bytes.now rest.now) }
+{
+    let (piece, rest) = front_piece(most, bytes)?;
+    if is_plain_array(element, piece) {
         Some(rest)
     } else {
         None

@@ -1,8 +1,10 @@
-ghost use Rattle.std.specs.Prelude.{◌≡◌, ℕ, Err, IfOk, IsTrue, MatchResult};
+ghost use Rattle.std.specs.Prelude.{◌≡◌, ◌<◌, List, ℕ, Ok, Err, IfOk, IfErr, IsTrue, MatchResult};
 ghost use Rattle.std.specs.Int.{w16, w32, w64, from_be_bytes, cast_signed};
 ghost use Rattle.pgw_wire.specs.Cell.{cell_of};
 ghost use Rattle.pgw_wire.specs.declared.kind.Break.{Break as Kind};
+ghost use Rattle.pgw_meta.specs.Shape.{array};
 ghost use Rattle.pgw_meta.specs.Types.{shape};
+ghost use Rattle.pgw_nested.specs.Pieces.{elements_of};
 ghost use Rattle.pgw_scalar.specs.Sized.{read_sized};
 ghost use Rattle.pgw_scalar.specs.Leading.{read_bool, read_char, read_oid};
 ghost use Rattle.pgw_scalar.specs.Text.{read_text};
@@ -14,15 +16,16 @@ ghost use Rattle.pgw_cell.specs.Built.{IsBuilt};
 ghost use Rattle.pgw_cell.specs.Spellings.{read_as};
 ghost use Rattle.pgw_cell.specs.Pieces.{read_piece};
 ghost use Rattle.pgw_cell.specs.Cells.{Spells, Breaks, read_value};
-ghost use Rattle.pgw_cell.specs.Data.{value_of, takes_memory, AnswersAs};
-ghost use Rattle.pgw_cell.specs.Written.{AreBytes};
+ghost use Rattle.pgw_cell.specs.Data.{value_of, data_of, values_of, takes_memory, AnswersAs};
+ghost use Rattle.pgw_cell.specs.Written.{AreBytes, cells_read};
 
-use crate::measure::is_nullable;
 use crate::network::network_field;
 use crate::piece::are_bytes;
-use crate::{ByteList, Datum, DigitList};
+use crate::sizes::{is_nullable, sized_array};
+use crate::{ByteList, Datum, DatumList, DigitList};
 use pgw_meta::deserialize::FromSql;
 use pgw_meta::{NameText, PgType};
+use pgw_nested::ArrayPieces;
 use pgw_numeric::PgNumeric;
 use pgw_numeric::sql_types::Numeric;
 use pgw_time::PgInterval;
@@ -236,6 +239,7 @@ fn read_numeric(alloc: Global, piece: &[u8]) -> Result<Datum, CellFault>
     }
 }
 
+#[cycle(reading)]
 fn read_piece(alloc: Global, t: &PgType, piece: &[u8]) -> Result<Datum, CellFault>
     ensures { AnswersAs result (read_piece (shape t.now) piece.now) }
 {
@@ -260,10 +264,56 @@ fn read_piece(alloc: Global, t: &PgType, piece: &[u8]) -> Result<Datum, CellFaul
         PgType::Interval => read_interval(alloc, piece),
         PgType::Numeric => read_numeric(alloc, piece),
         PgType::Nullable(part) | PgType::Named(_, part) => read_piece(alloc, part, piece),
+        PgType::Array(element) => read_array(alloc, element, piece),
         _ => Err(CellFault::Break(Break::Size)),
     }
 }
 
+/// The array that the piece spells. The piece is walked over first, so that memory is asked for only where each element
+/// spells a value.
+#[cycle(reading)]
+fn read_array(alloc: Global, element: &PgType, piece: &[u8]) -> Result<Datum, CellFault>
+    ensures { AnswersAs result (read_piece (array (shape element.now)) piece.now) }
+{
+    if let Err(kind) = sized_array(element, piece) {
+        return Err(CellFault::Break(kind));
+    }
+    match ArrayPieces::new(piece) {
+        Ok(pieces) => {
+            let list = read_elements(alloc, element, pieces)?;
+            Ok(Datum::List(list))
+        }
+        Err(_) => unreachable!(),
+    }
+}
+
+/// The elements of an array, of which each spells a value.
+#[cycle(reading)]
+fn read_elements(
+    alloc: Global,
+    element: &PgType,
+    pieces: ArrayPieces<'_>,
+) -> Result<DatumList, CellFault>
+    requires { (x : List Value × List ℕ) × (cells_read (shape element.now) (elements_of pieces) ≡ Ok x) }
+    ensures ok { IfOk result (λ list. (rest : List ℕ) × (cells_read (shape element.now) (elements_of pieces.entry)
+        ≡ Ok (values_of (data_of list), rest))) }
+    ensures err { IfErr result (λ fault. (fault ≡ CellFault.NoMemory) × (0 < (elements_of pieces.entry).left)) }
+{
+    let mut pieces = pieces;
+    let mut list = DatumList::new(alloc);
+    loop {
+        match pieces.next_piece() {
+            Ok(Some(cell)) => {
+                let item = read(alloc, element, cell)?;
+                list.push(item)?;
+            }
+            Ok(None) => return Ok(list),
+            Err(_) => unreachable!(),
+        }
+    }
+}
+
+#[cycle(reading)]
 fn read(alloc: Global, t: &PgType, cell: RawCell<'_>) -> Result<Datum, CellFault>
     ensures value { AnswersAs result (read_value (shape t.now) (cell_of cell.entry)) }
     ensures bytes { AreBytes (cell_of cell.entry) }
@@ -284,7 +334,9 @@ fn read(alloc: Global, t: &PgType, cell: RawCell<'_>) -> Result<Datum, CellFault
 }
 
 /// The value that the cell spells. `Break` exactly where the cell breaks in this kind. `NoMemory` only where it spells
-/// a value that takes memory: a text, bytes, a network, or a numeric that is a number.
+/// a value that takes memory: a text, bytes, a network, a numeric that is a number, or an array with elements. So a cell
+/// that holds an array is walked over once before any memory is asked for, and none is asked for by the count that it
+/// states.
 pub fn read_cell(alloc: Global, t: &PgType, cell: RawCell<'_>) -> Result<Datum, CellFault>
     requires { IsBuilt (shape t.now) }
     ensures ok { IfOk result (λ value. Spells (shape t.now) (cell_of cell.entry) (value_of value)) }

@@ -1,5 +1,11 @@
-ghost use Rattle.std.specs.Prelude.{◌≡◌, ◌↔◌, ◌<◌, ◌≤◌, ◌^◌, ◌+◌, ◌*◌, ◌++◌, ℕ, ℤ, Bool, List, length, None, Some, Err, IsOk, OnOk, OnErr};
+ghost use Rattle.std.specs.Prelude.{◌≡◌, ◌↔◌, ◌<◌, ◌≤◌, ◌^◌, ◌+◌, ◌*◌, ◌++◌, ℕ, ℤ, Bool, List, length, map, None, Some, Err, IsOk, OnOk, OnErr};
 ghost use Rattle.pgw_wire.specs.Cell.{frame};
+ghost use Rattle.std.specs.List.{AllByRecursion};
+ghost use Rattle.pgw_meta.specs.NamedOids.{known_of, oids_of};
+ghost use Rattle.pgw_meta.specs.Shape.{array};
+ghost use Rattle.pgw_nested.specs.Array.{is_null, any_null, array_bytes};
+ghost use Rattle.pgw_nested.specs.Frames.{frames};
+ghost use Rattle.pgw_cell.specs.Nulls.{unless_null};
 ghost use Rattle.pgw_meta.specs.Types.{shape};
 ghost use Rattle.pgw_time.specs.Interval.{Interval, interval_bytes};
 ghost use Rattle.pgw_numeric.specs.Numeric.{number_sign, header_bytes, digit_bytes, field_bytes};
@@ -8,13 +14,15 @@ ghost use Rattle.pgw_cell.specs.Value.{truth, number, bytes, string, interval};
 ghost use Rattle.pgw_cell.specs.Spellings.{networks, numerics, bytes_of_interval};
 ghost use Rattle.pgw_cell.specs.Pieces.{HasPiece, canonical_piece};
 ghost use Rattle.pgw_cell.specs.Cells.{HasType, Fits, canonical_cell};
-ghost use Rattle.pgw_cell.specs.Data.{value_of};
+ghost use Rattle.pgw_cell.specs.Data.{value_of, values_of};
 ghost use Rattle.pgw_cell.specs.Wrote.{Wrote, Began};
 
 use crate::Datum;
 use crate::piece::NOT_A_NUMBER;
-use crate::rewrite::NULL;
-use pgw_meta::{FoundOids, PgType};
+use crate::rewrite::{NULL, either, say_nulls};
+use crate::value_sizes::items_size;
+use pgw_meta::{FoundOids, PgType, oid_of};
+use pgw_nested::place_array;
 use pgw_numeric::field::{Header, Sign};
 use pgw_wire::{ByteBuffer, NoMemory as NoMemoryLeft};
 use thiserror::Error;
@@ -60,7 +68,7 @@ fn number_of(value: &Datum) -> i128
     }
 }
 
-fn bytes_of(value: &Datum) -> &[u8]
+pub(crate) fn bytes_of(value: &Datum) -> &[u8]
     requires { (b : List ℕ) × (value_of value.now ≡ bytes b) }
     ensures { value_of value.now ≡ bytes result.now }
 {
@@ -70,7 +78,7 @@ fn bytes_of(value: &Datum) -> &[u8]
     }
 }
 
-fn text_of(value: &Datum) -> &[u8]
+pub(crate) fn text_of(value: &Datum) -> &[u8]
     requires { (s : List ℕ) × (value_of value.now ≡ string s) }
     ensures { value_of value.now ≡ string result.now }
 {
@@ -224,15 +232,17 @@ fn write_numeric(value: &Datum, field_max: u32, out: &mut ByteBuffer) -> Result<
     }
 }
 
+#[cycle(writing)]
 fn write_piece(
     t: &PgType,
     value: &Datum,
+    found: &FoundOids,
     field_max: u32,
     out: &mut ByteBuffer,
 ) -> Result<(), WriteCellFault>
     requires has { HasPiece (shape t.now) (value_of value.now) }
     requires max { field_max ≤ 2147483647 }
-    ensures { Wrote field_max (Some (canonical_piece (shape t.now) (value_of value.now))) result out.old out.new }
+    ensures { Wrote field_max (Some (canonical_piece (known_of found.now) (shape t.now) (value_of value.now))) result out.old out.new }
 {
     match t {
         PgType::Bool => write_field(&[u8::from(truth_of(value))], field_max, out),
@@ -256,9 +266,86 @@ fn write_piece(
         }
         PgType::Interval => write_field(&interval_bytes(value), field_max, out),
         PgType::Numeric => write_numeric(value, field_max, out),
-        PgType::Nullable(part) | PgType::Named(_, part) => write_piece(part, value, field_max, out),
+        PgType::Nullable(part) | PgType::Named(_, part) => write_piece(
+            part, value, found, field_max, out,
+        ),
+        PgType::Array(element) => write_array(element, value, found, field_max, out),
         _ => unreachable!(),
     }
+}
+
+/// Whether the value is null.
+fn is_null(value: &Datum) -> bool
+    ensures { (piece : List ℕ) → result ≡ is_null (unless_null (value_of value.now) piece) }
+{
+    matches!(value, Datum::Null)
+}
+
+/// Appends the field of an array of such elements.
+#[cycle(writing)]
+fn write_array(
+    element: &PgType,
+    value: &Datum,
+    found: &FoundOids,
+    field_max: u32,
+    out: &mut ByteBuffer,
+) -> Result<(), WriteCellFault>
+    requires has { HasPiece (array (shape element.now)) (value_of value.now) }
+    requires max { field_max ≤ 2147483647 }
+    ensures { Wrote field_max (Some (canonical_piece (known_of found.now) (array (shape element.now)) (value_of value.now)))
+        result out.old out.new }
+{
+    match value {
+        Datum::List(list) => write_list(element, list.as_slice(), found, field_max, out),
+        _ => unreachable!(),
+    }
+}
+
+/// Appends the field of the array of these elements. Its size is known before, so that memory is asked for once.
+#[cycle(writing)]
+fn write_list(
+    element: &PgType,
+    items: &[Datum],
+    found: &FoundOids,
+    field_max: u32,
+    out: &mut ByteBuffer,
+) -> Result<(), WriteCellFault>
+    requires has { AllByRecursion (HasType (shape element.now)) (values_of items.now) }
+    requires max { field_max ≤ 2147483647 }
+    ensures { Wrote field_max (Some (array_bytes (oids_of (known_of found.now) (shape element.now)).oid
+        (map (canonical_cell (known_of found.now) (shape element.now)) (values_of items.now)))) result out.old out.new }
+{
+    begin_field(items_size(element, items), field_max, out)?;
+    let flags = place_array(out, oid_of(found, element), items.len() as u32);
+    let null = write_items(element, items, found, out);
+    say_nulls(out, flags, null);
+    Ok(())
+}
+
+/// Appends the fields of the elements of an array into the room that was made for them, and answers whether one is a
+/// null.
+#[cycle(writing)]
+fn write_items(element: &PgType, items: &[Datum], found: &FoundOids, out: &mut ByteBuffer) -> bool
+    requires has { AllByRecursion (HasType (shape element.now)) (values_of items.now) }
+    requires room { length (frames (map (canonical_cell (known_of found.now) (shape element.now)) (values_of items.now)))
+        ≤ out.old.spare }
+    requires small { length (frames (map (canonical_cell (known_of found.now) (shape element.now)) (values_of items.now)))
+        ≤ 2147483647 }
+    ensures bytes { out.new.bytes ≡ out.old.bytes
+        ++ frames (map (canonical_cell (known_of found.now) (shape element.now)) (values_of items.now)) }
+    ensures spare { out.old.spare ≤ out.new.spare
+        + length (frames (map (canonical_cell (known_of found.now) (shape element.now)) (values_of items.now))) }
+    ensures null { result ≡ any_null (map (canonical_cell (known_of found.now) (shape element.now)) (values_of items.now)) }
+{
+    let mut null = false;
+    for item in items {
+        null = either(null, is_null(item));
+        match write(element, item, found, 2147483647, out) {
+            Ok(()) => {}
+            Err(_) => unreachable!(),
+        }
+    }
+    null
 }
 
 fn write_null(field_max: u32, out: &mut ByteBuffer) -> Result<(), WriteCellFault>
@@ -268,45 +355,47 @@ fn write_null(field_max: u32, out: &mut ByteBuffer) -> Result<(), WriteCellFault
     Ok(())
 }
 
+#[cycle(writing)]
 fn write(
     t: &PgType,
     value: &Datum,
+    found: &FoundOids,
     field_max: u32,
     out: &mut ByteBuffer,
 ) -> Result<(), WriteCellFault>
     requires has { HasType (shape t.now) (value_of value.now) }
     requires max { field_max ≤ 2147483647 }
-    ensures { Wrote field_max (canonical_cell (shape t.now) (value_of value.now)) result out.old out.new }
+    ensures { Wrote field_max (canonical_cell (known_of found.now) (shape t.now) (value_of value.now)) result out.old out.new }
 {
     match value {
         Datum::Null => write_null(field_max, out),
-        _ => write_piece(t, value, field_max, out),
+        _ => write_piece(t, value, found, field_max, out),
     }
 }
 
 /// Appends the canonical field of a value of the type: the length of its bytes, and those. `TooLong` exactly where they
 /// are more than `field_max`, and `NoMemory` only where they are not; after either the bytes of the buffer are as
-/// before. Where the field fits the spare of the buffer it takes no memory. No type asks for `found` yet: arrays and
-/// records, whose fields hold oids, will.
+/// before. Where the field fits the spare of the buffer it takes no memory. The oids of named types, which fields of
+/// other types hold, are those of `found`.
 pub fn write_cell(
     t: &PgType,
     value: &Datum,
-    _found: &FoundOids,
+    found: &FoundOids,
     field_max: u32,
     out: &mut ByteBuffer,
 ) -> Result<(), WriteCellFault>
     requires has { HasType (shape t.now) (value_of value.now) }
     requires max { field_max ≤ 2147483647 }
     ensures ok { OnOk result (out.new.bytes ≡ out.old.bytes
-        ++ frame (canonical_cell (shape t.now) (value_of value.now))) }
+        ++ frame (canonical_cell (known_of found.now) (shape t.now) (value_of value.now))) }
     ensures fits { OnOk result (Fits field_max (shape t.now) (value_of value.now)) }
     ensures long { (result ≡ Err WriteCellFault.TooLong) ↔ (Fits field_max (shape t.now) (value_of value.now) → ⊥) }
     ensures memory { result ≡ Err WriteCellFault.NoMemory → Fits field_max (shape t.now) (value_of value.now) }
     ensures kept { OnErr result (out.new.bytes ≡ out.old.bytes) }
     ensures spare { out.old.spare
-        ≤ out.new.spare + length (frame (canonical_cell (shape t.now) (value_of value.now))) }
+        ≤ out.new.spare + length (frame (canonical_cell (known_of found.now) (shape t.now) (value_of value.now))) }
     ensures suffices { Fits field_max (shape t.now) (value_of value.now)
-        → length (frame (canonical_cell (shape t.now) (value_of value.now))) ≤ out.old.spare → IsOk result }
+        → length (frame (canonical_cell (known_of found.now) (shape t.now) (value_of value.now))) ≤ out.old.spare → IsOk result }
 {
-    write(t, value, field_max, out)
+    write(t, value, found, field_max, out)
 }

@@ -7,6 +7,6 @@ pub mod Canonical
 pub mod Breaking
 pub mod WorkedArrays
 mod Begun
-mod ReadingOn
+pub mod ReadingOn
 mod Refusals
-mod Writings
+pub mod Writings

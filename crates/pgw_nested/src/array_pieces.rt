@@ -110,6 +110,13 @@ impl<'a> ArrayPieces<'a> {
         })
     }
 
+    /// How many elements are left to be given, by the count that the field states.
+    pub fn left(&self) -> u32
+        ensures { result ≡ (elements_of self.now).left }
+    {
+        self.left
+    }
+
     /// The next element. None where all were given. The length -1 is a null's where the flags are not 0. `ShortBuffer`
     /// where the field ends inside the length, `NegativeSize` with any other length below 0, and `ElementBytes` with a
     /// length that is more than the bytes behind it. A call that is refused changes nothing, so that the next one is

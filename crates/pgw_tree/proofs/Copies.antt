@@ -19,6 +19,7 @@ use Rattle.pgw_tree.specs.Limits.{Limits}
 use Rattle.pgw_tree.specs.ReadErrors.{fault_of}
 use Rattle.pgw_tree.specs.Causes.{WroteBehind, HeaderCause, bad_header, bad_flags, truncated_header, read_fault_in_header}
 use Rattle.pgw_tree.specs.Copying.{IsValuesRow, IsCopying}
+use Rattle.pgw_meta.specs.Known.{Known}
 
 pub rows_more : (ts : List Shape) (body x : List ℕ) (rows : List (List Value)) (cells : List Cell) (vs : List Value) → AreRows ts body rows → IsRow cells x → SpellsRow ts cells vs → AreRows ts (body ++ x) (rows ++ (vs ∷ []))
 rows_more ts body x [] cells vs each row spelled = (cells, x, [], row, spelled, refl, ap (λ l. l ++ x) each ∙ sym (append-nil x))
@@ -44,14 +45,14 @@ within_more limits ts rows vs w more fit = record {
   fit = all_more (FitsRow limits.field_max ts) rows vs w.fit fit;
 }
 
-pub canonical_more : (ts : List Shape) (rows : List (List Value)) (vs : List Value) → canonical_front ts (rows ++ (vs ∷ [])) ≡ canonical_front ts rows ++ canonical_row ts vs
-canonical_more ts rows vs =
-    ap (λ l. canonical_header ++ l) (flat_map-append (canonical_row ts) rows (vs ∷ []) ∙ ap (λ l. flat_map (canonical_row ts) rows ++ l) (append-nil (canonical_row ts vs)))
-    ∙ sym (append_assoc canonical_header (flat_map (canonical_row ts) rows) (canonical_row ts vs))
+pub canonical_more : (known : Known) (ts : List Shape) (rows : List (List Value)) (vs : List Value) → canonical_front known ts (rows ++ (vs ∷ [])) ≡ canonical_front known ts rows ++ canonical_row known ts vs
+canonical_more known ts rows vs =
+    ap (λ l. canonical_header ++ l) (flat_map-append (canonical_row known ts) rows (vs ∷ []) ∙ ap (λ l. flat_map (canonical_row known ts) rows ++ l) (append-nil (canonical_row known ts vs)))
+    ∙ sym (append_assoc canonical_header (flat_map (canonical_row known ts) rows) (canonical_row known ts vs))
 
 -- a header, and no row yet
-pub none_copied : (limits : Limits) (ts : List Shape) (Written : List ℕ → Type 0) (header : List ℕ) → IsHeader header → Written canonical_header → IsCopying limits ts 0 Written header
-none_copied limits ts Written header h written = record {
+pub none_copied : (known : Known) (limits : Limits) (ts : List Shape) (Written : List ℕ → Type 0) (header : List ℕ) → IsHeader header → Written canonical_header → IsCopying known limits ts 0 Written header
+none_copied known limits ts Written header h written = record {
   rows = [];
   begins = record { header = header; body = []; begins = h; each = refl; is = sym (append-nil header) };
   within = record { few = omega arith; fit = tt };

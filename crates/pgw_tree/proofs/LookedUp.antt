@@ -1,16 +1,15 @@
 -- What a fault of the needs, which are looked up first, says of the copy.
-use Rattle.std.proofs.Common.{◌≡◌, ◌⊎◌, ℕ, List, [], ◌∷◌, flat_map, Option, Some, Result, Err, refl, sym, ap, subst, ◌∙◌, inl, inr}
+use Rattle.std.proofs.Common.{◌≡◌, ◌⊎◌, ℕ, List, [], ◌∷◌, Option, Some, Result, Err, refl, sym, ap, subst, ◌∙◌, inl, inr}
 use Rattle.std.specs.Prelude.{IsErrAnd}
 use Rattle.std.proofs.lemmas.Option.{none-some}
 use Rattle.pgw_wire.specs.Outside.{SinkState, Wrote}
 use Rattle.pgw_wire.proofs.Adding.{wrote_none}
 use Rattle.pgw_meta.specs.Known.{Key, Known, LookupState}
 use Rattle.pgw_meta.specs.Keys.{owned_key}
-use Rattle.pgw_meta.specs.Needs.{NeededKey, needs_of, field_needs, with_needs}
-use Rattle.pgw_meta.specs.Shape.{Shape, scalar, nullable, array, range, multirange, composite, named}
+use Rattle.pgw_meta.specs.Needs.{NeededKey}
+use Rattle.pgw_meta.specs.Shape.{Shape}
+use Rattle.pgw_meta.specs.declared.found_oids.Found.{Found}
 use Rattle.pgw_meta.specs.declared.key.TypeKey.{TypeKey}
-use Rattle.pgw_cell.specs.Built.{IsBuilt}
-use Rattle.pgw_tree.specs.ColumnTypes.{AreBuilt}
 use Rattle.pgw_tree.specs.Limits.{Limits}
 use Rattle.pgw_tree.specs.Causes.{Form, HeaderCause, bad_header, bad_flags, truncated_header, read_fault_in_header, no_memory_at_first, RowCause, truncated, bad_field_count, unexpected_end_of_row, bad_value, too_long, row_limit, read_fault, no_memory as no_memory_left, fault_says, copy_says}
 use Rattle.pgw_tree.specs.Lookups.{first_unmet, IsFirstUnmet, AreMet, HasFailedAsked, IsLookupFault, IsUnknownType, LookupCause, unknown_type, lookup_fault, no_memory}
@@ -18,10 +17,10 @@ use Rattle.pgw_tree.specs.declared.fault.CopyFault.{CopyFault}
 use Rattle.pgw_tree.specs.declared.fault.CopyFault.TheVariants.{UnknownType, LookupFault, NoMemory, Truncated, ReadFault, WriteFault}
 
 -- Nothing was taken or written where the needs were not found.
-pub cause_says : {First : Key → Type 0} {Failed O : Type 0} (limits : Limits) (ts : List Shape) (form : Form) (e : CopyFault) (s : SinkState O) → LookupCause First Failed e → copy_says limits ts form e (Wrote s s) []
-cause_says limits ts form e s (unknown_type key is first) = inl (subst IsLookupFault (sym is) tt, refl, wrote_none s)
-cause_says limits ts form e s (lookup_fault is failed) = inl (subst IsLookupFault (sym is) tt, refl, wrote_none s)
-cause_says limits ts form e s (no_memory is) = inr (inl (no_memory_at_first is refl, wrote_none s))
+pub cause_says : {First : Key → Type 0} {Failed O : Type 0} (limits : Limits) (ts : List Shape) (Finds : List Found → Type 0) (form : List Found → Form) (e : CopyFault) (s : SinkState O) → LookupCause First Failed e → copy_says limits ts Finds form e (Wrote s s) []
+cause_says limits ts Finds form e s (unknown_type key is first) = inl (subst IsLookupFault (sym is) tt, refl, wrote_none s)
+cause_says limits ts Finds form e s (lookup_fault is failed) = inl (subst IsLookupFault (sym is) tt, refl, wrote_none s)
+cause_says limits ts Finds form e s (no_memory is) = inr (inl (no_memory_at_first is refl, wrote_none s))
 
 -- Such a fault is none of the stream's.
 pub cause_not_cut : {First : Key → Type 0} {Failed : Type 0} {e : CopyFault} → LookupCause First Failed e → e ≡ Truncated → ⊥
@@ -97,24 +96,7 @@ lookup_answer {X = X} r e is l = subst (λ (s : Result X CopyFault). IsErrAnd s 
 pub no_lookup_answer : {X : Type 0} {limits : Limits} {ts : List Shape} {form : Form} {fault : CopyFault} {Written : List ℕ → Type 0} {taken : List ℕ} (r : Result X CopyFault) → fault_says limits ts form fault Written taken → r ≡ Err fault → IsErrAnd r IsLookupFault → ⊥
 no_lookup_answer {X = X} r says is l = says_not_lookup says (subst (λ (s : Result X CopyFault). IsErrAnd s IsLookupFault) is l)
 
--- and so the fault of a copy that is none of the lookup is one of the stream
-pub says_of_stream : {limits : Limits} {ts : List Shape} {form : Form} {fault : CopyFault} {Written : List ℕ → Type 0} {taken : List ℕ} → (IsLookupFault fault → ⊥) → copy_says limits ts form fault Written taken → fault_says limits ts form fault Written taken
-says_of_stream other (inl l) = absurd (other l.0)
-says_of_stream other (inr s) = s
-
--- Columns whose rows are copied so far have no needs.
-needs_none : (t : Shape) → IsBuilt t → field_needs t ≡ []
-needs_none (scalar s) b = refl
-needs_none (nullable t) b = needs_none t b
-needs_none (array t) b = absurd b
-needs_none (range t) b = absurd b
-needs_none (multirange t) b = absurd b
-needs_none (composite ts) b = absurd b
-needs_none (named k t) b = needs_none t b
-
-all_none : (ts : List Shape) → AreBuilt ts → flat_map field_needs ts ≡ []
-all_none [] b = refl
-all_none (t ∷ ts) b = rw (needs_none t b.0) (all_none ts b.1)
-
-pub no_needs : (ts : List Shape) → AreBuilt ts → needs_of ts ≡ []
-no_needs ts b = ap (with_needs []) (all_none ts b)
+-- A fault of the stream, whose rows are written by what was found, is one of the copy.
+pub found_says : {limits : Limits} {ts : List Shape} {Finds : List Found → Type 0} {form : List Found → Form} {fault : CopyFault} {Written : List ℕ → Type 0} {taken : List ℕ} (found : List Found) → Finds found → fault_says limits ts (form found) fault Written taken → copy_says limits ts Finds form fault Written taken
+found_says found finds (inl h) = inr (inl h)
+found_says found finds (inr s) = inr (inr (found, finds, s))

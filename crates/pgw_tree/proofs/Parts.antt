@@ -27,6 +27,7 @@ use Rattle.pgw_tree.specs.Copying.{Copies}
 use Rattle.pgw_tree.specs.Sending.{SendCause, has_too_few, has_break, has_long, has_broken, lacks_memory, in_row}
 use Rattle.pgw_tree.specs.Runs.{rows_fault}
 use Rattle.pgw_tree.proofs.Runs.{broken_one}
+use Rattle.pgw_meta.specs.Known.{Known}
 
 is_truncated : (e : CopyReadError) → fault_of e ≡ Truncated → e ≡ reader_truncated
 is_truncated BadHeader h = absurd (cc)
@@ -90,17 +91,17 @@ filled_cause Broken fault (has_broken is broken) = absurd broken
 filled_cause Broken fault (lacks_memory is) = lacks_memory is
 
 -- What was wrong with the values of a row, said of the row.
-pub sent_cause : (limits : Limits) (ts : List Shape) (rows : ℕ) {O : Type 0} {a b : SinkState O} (cells : List Cell) (bytes : List ℕ) (fault : SendFault) → IsRowAt limits rows cells bytes
-    → SendCause limits.field_max ts cells ((values : List Value) × SpellsFit limits.field_max ts cells values × WroteFront (Wrote a b) (canonical_row ts values) × HasFailed a b) fault
-    → (fault ≢ send_write_fault → Wrote a b []) → rows_fault limits ts rows (Wrote a b) (in_row rows fault) bytes
-sent_cause limits ts rows cells bytes fault row (has_too_few is few) still = inl (unexpected_end_of_row cells (ap (in_row rows) is) row few, still (λ e. absurd (cc (is, e))))
-sent_cause limits ts rows cells bytes fault row (has_break column kind is breaks) still = inl (bad_value cells column kind (ap (in_row rows) is) row breaks, still (λ e. absurd (cc (is, e))))
-sent_cause limits ts rows cells bytes fault row (has_long column is long) still = inl (too_long cells column (ap (in_row rows) is) row long, still (λ e. absurd (cc (is, e))))
-sent_cause limits ts rows cells bytes fault row (has_broken is broken) still = inr (
+pub sent_cause : (known : Known) (limits : Limits) (ts : List Shape) (rows : ℕ) {O : Type 0} {a b : SinkState O} (cells : List Cell) (bytes : List ℕ) (fault : SendFault) → IsRowAt limits rows cells bytes
+    → SendCause limits.field_max ts cells ((values : List Value) × SpellsFit limits.field_max ts cells values × WroteFront (Wrote a b) (canonical_row known ts values) × HasFailed a b) fault
+    → (fault ≢ send_write_fault → Wrote a b []) → rows_fault known limits ts rows (Wrote a b) (in_row rows fault) bytes
+sent_cause known limits ts rows cells bytes fault row (has_too_few is few) still = inl (unexpected_end_of_row cells (ap (in_row rows) is) row few, still (λ e. absurd (cc (is, e))))
+sent_cause known limits ts rows cells bytes fault row (has_break column kind is breaks) still = inl (bad_value cells column kind (ap (in_row rows) is) row breaks, still (λ e. absurd (cc (is, e))))
+sent_cause known limits ts rows cells bytes fault row (has_long column is long) still = inl (too_long cells column (ap (in_row rows) is) row long, still (λ e. absurd (cc (is, e))))
+sent_cause known limits ts rows cells bytes fault row (has_broken is broken) still = inr (
   ap (in_row rows) is,
-  broken_one limits ts rows bytes broken.0 row.allowed (record { cells = cells; is = row.is; spelled = broken.1.spelled; fit = broken.1.fit }) broken.2,
+  broken_one known limits ts rows bytes broken.0 row.allowed (record { cells = cells; is = row.is; spelled = broken.1.spelled; fit = broken.1.fit }) broken.2,
 )
-sent_cause limits ts rows cells bytes fault row (lacks_memory is) still = inl (no_memory (ap (in_row rows) is) row.allowed (inr (cells, row.is)), still (λ e. absurd (cc (is, e))))
+sent_cause known limits ts rows cells bytes fault row (lacks_memory is) still = inl (no_memory (ap (in_row rows) is) row.allowed (inr (cells, row.is)), still (λ e. absurd (cc (is, e))))
 
 -- What is wrong with a row is neither the end of the source nor a fault of it.
 pub is_inside : (rows : ℕ) (fault : SendFault) → (in_row rows fault ≢ Truncated) × (in_row rows fault ≢ ReadFault)

@@ -16,6 +16,7 @@ use Rattle.pgw_tree.specs.Spells.{SpellsRow}
 use Rattle.pgw_tree.specs.Canonical.{FitsRow, canonical_cells}
 use Rattle.pgw_tree.specs.ColumnTypes.{AreBuilt, plain_cells}
 use Rattle.pgw_tree.specs.Rewriting.{canonical_fields}
+use Rattle.pgw_meta.specs.Known.{Known}
 
 pub spells_more : (ts : List Shape) (cells : List Cell) (vs : List Value) (t : Shape) (c : Cell) (v : Value) → length cells ≡ length ts → SpellsRow ts cells vs → Spells t c v → SpellsRow (ts ++ (t ∷ [])) (cells ++ (c ∷ [])) (vs ++ (v ∷ []))
 spells_more [] [] [] t c v many spelled one = (one, tt)
@@ -32,19 +33,19 @@ fits_more most (u ∷ us) [] vs t v spelled fit one = absurd spelled
 fits_more most (u ∷ us) (d ∷ ds) [] t v spelled fit one = absurd spelled
 fits_more most (u ∷ us) (d ∷ ds) (w ∷ ws) t v spelled fit one = (fit.0, fits_more most us ds ws t v spelled.1 fit.1 one)
 
-pub canonical_more : (ts : List Shape) (cells : List Cell) (vs : List Value) (t : Shape) (v : Value) → SpellsRow ts cells vs → canonical_cells (ts ++ (t ∷ [])) (vs ++ (v ∷ [])) ≡ canonical_cells ts vs ++ (canonical_cell t v ∷ [])
-canonical_more [] cells [] t v spelled = refl
-canonical_more [] cells (w ∷ ws) t v spelled = absurd spelled
-canonical_more (u ∷ us) [] vs t v spelled = absurd spelled
-canonical_more (u ∷ us) (d ∷ ds) [] t v spelled = absurd spelled
-canonical_more (u ∷ us) (d ∷ ds) (w ∷ ws) t v spelled = ap (λ cs. canonical_cell u w ∷ cs) (canonical_more us ds ws t v spelled.1)
+pub canonical_more : (known : Known) (ts : List Shape) (cells : List Cell) (vs : List Value) (t : Shape) (v : Value) → SpellsRow ts cells vs → canonical_cells known (ts ++ (t ∷ [])) (vs ++ (v ∷ [])) ≡ canonical_cells known ts vs ++ (canonical_cell known t v ∷ [])
+canonical_more known [] cells [] t v spelled = refl
+canonical_more known [] cells (w ∷ ws) t v spelled = absurd spelled
+canonical_more known (u ∷ us) [] vs t v spelled = absurd spelled
+canonical_more known (u ∷ us) (d ∷ ds) [] t v spelled = absurd spelled
+canonical_more known (u ∷ us) (d ∷ ds) (w ∷ ws) t v spelled = ap (λ cs. canonical_cell known u w ∷ cs) (canonical_more known us ds ws t v spelled.1)
 
 -- The fields of some columns, and that of the next.
-pub fields_more : (ts : List Shape) (cells : List Cell) (vs : List Value) (t : Shape) (v : Value) → SpellsRow ts cells vs → canonical_fields (ts ++ (t ∷ [])) (vs ++ (v ∷ [])) ≡ canonical_fields ts vs ++ frame (canonical_cell t v)
-fields_more ts cells vs t v spelled =
-    ap (flat_map frame) (canonical_more ts cells vs t v spelled)
-    ∙ flat_map-append frame (canonical_cells ts vs) (canonical_cell t v ∷ [])
-    ∙ ap (λ l. canonical_fields ts vs ++ l) (append-nil (frame (canonical_cell t v)))
+pub fields_more : (known : Known) (ts : List Shape) (cells : List Cell) (vs : List Value) (t : Shape) (v : Value) → SpellsRow ts cells vs → canonical_fields known (ts ++ (t ∷ [])) (vs ++ (v ∷ [])) ≡ canonical_fields known ts vs ++ frame (canonical_cell known t v)
+fields_more known ts cells vs t v spelled =
+    ap (flat_map frame) (canonical_more known ts cells vs t v spelled)
+    ∙ flat_map-append frame (canonical_cells known ts vs) (canonical_cell known t v ∷ [])
+    ∙ ap (λ l. canonical_fields known ts vs ++ l) (append-nil (frame (canonical_cell known t v)))
 
 -- The type stands at this place, behind so many others.
 pub record IsAt (ts : List Shape) (place : ℕ) (t : Shape) : Type 0 where
@@ -74,5 +75,5 @@ pub built_at : (ts : List Shape) (i : ℕ) (t : Shape) → IsAt ts i t → AreBu
 built_at ts i t at each = let here = subst AreBuilt at.rest (built_behind ts i each) in here.0
 
 -- What is kept of the columns, at one of them.
-pub plain_at : (cells : List PlainCell) (ts : List Shape) (i : ℕ) (none : PlainCell) (d : Shape) → cells ≡ plain_cells ts → i < length ts → IsPlainCellOf (get_or cells i none) (get_or ts i d)
-plain_at cells ts i none d each within = ap (λ l. get_or l i none) each ∙ get_or-map plain_cell ts i d none within
+pub plain_at : (known : Known) (cells : List PlainCell) (ts : List Shape) (i : ℕ) (none : PlainCell) (d : Shape) → cells ≡ plain_cells known ts → i < length ts → IsPlainCellOf known (get_or cells i none) (get_or ts i d)
+plain_at known cells ts i none d each within = ap (λ l. get_or l i none) each ∙ get_or-map (plain_cell known) ts i d none within

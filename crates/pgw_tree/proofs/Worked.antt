@@ -14,6 +14,11 @@ use Rattle.pgw_scalar.specs.Text.{IsText}
 use Rattle.pgw_copy.specs.Format.{IsHeader, IsField, IsRow, trailer}
 use Rattle.pgw_tree.specs.Stream.{IsFront, IsStream, IsWithin}
 use Rattle.pgw_tree.specs.Limits.{default_limits}
+use Rattle.pgw_meta.specs.Known.{Known}
+
+-- No named type is known.
+abbrev unknown : Known
+unknown key = None
 
 -- a header with no flag and no extension
 abbrev pub plain : List ℕ
@@ -59,7 +64,7 @@ spelled_42 cells = ((pos 42, int4_42, refl), tt)
 pub empty_stream : IsStream columns (plain ++ 255 ∷ 255 ∷ []) []
 empty_stream = record { front = plain; begins = record { header = plain; body = []; begins = plain_is_header; each = refl; is = refl }; is = refl }
 
-pub empty_canonical : canonical_front columns [] ++ trailer ≡ plain ++ 255 ∷ 255 ∷ []
+pub empty_canonical : canonical_front unknown columns [] ++ trailer ≡ plain ++ 255 ∷ 255 ∷ []
 empty_canonical = refl
 
 -- A header and a row of one field of four bytes are the front of a stream of one value. With the end behind them they are
@@ -73,7 +78,7 @@ front_42 = record { header = plain; body = 0 ∷ 1 ∷ field_42; begins = plain_
 pub row_stream : IsStream columns (plain ++ 0 ∷ 1 ∷ 0 ∷ 0 ∷ 0 ∷ 4 ∷ 0 ∷ 0 ∷ 0 ∷ 42 ∷ 255 ∷ 255 ∷ []) (values ∷ [])
 row_stream = record { front = plain ++ 0 ∷ 1 ∷ field_42; begins = front_42; is = refl }
 
-pub row_canonical : canonical_front columns (values ∷ []) ++ trailer ≡ plain ++ 0 ∷ 1 ∷ 0 ∷ 0 ∷ 0 ∷ 4 ∷ 0 ∷ 0 ∷ 0 ∷ 42 ∷ 255 ∷ 255 ∷ []
+pub row_canonical : canonical_front unknown columns (values ∷ []) ++ trailer ≡ plain ++ 0 ∷ 1 ∷ 0 ∷ 0 ∷ 0 ∷ 4 ∷ 0 ∷ 0 ∷ 0 ∷ 42 ∷ 255 ∷ 255 ∷ []
 row_canonical = refl
 
 -- Fields behind the last column change nothing, null or not.
@@ -97,7 +102,7 @@ pub one_within : IsWithin default_limits columns (values ∷ [])
 one_within = record { few = lit≤ tt; fit = ((lit≤ tt, tt), tt) }
 
 -- -1 is written in two's complement.
-pub minus_one : canonical_cell (scalar int4) (number (negsuc 0)) ≡ Some (255 ∷ 255 ∷ 255 ∷ 255 ∷ [])
+pub minus_one : canonical_cell unknown (scalar int4) (number (negsuc 0)) ≡ Some (255 ∷ 255 ∷ 255 ∷ 255 ∷ [])
 minus_one = refl
 
 -- A row whose count is 1 is that and the field of one cell.
@@ -168,5 +173,5 @@ null_stream = record { front = plain ++ 0 ∷ 3 ∷ fields; begins = front; is =
     front : IsFront wide_columns (plain ++ 0 ∷ 3 ∷ fields) (wide_values ∷ [])
     front = record { header = plain; body = 0 ∷ 3 ∷ fields; begins = plain_is_header; each = (_, _, [], row, spelled_wide, refl, refl); is = refl }
 
-pub null_canonical : canonical_front wide_columns (wide_values ∷ []) ++ trailer ≡ plain ++ 0 ∷ 3 ∷ 255 ∷ 255 ∷ 255 ∷ 255 ∷ 255 ∷ 255 ∷ 255 ∷ 255 ∷ 0 ∷ 0 ∷ 0 ∷ 2 ∷ 195 ∷ 169 ∷ 255 ∷ 255 ∷ []
+pub null_canonical : canonical_front unknown wide_columns (wide_values ∷ []) ++ trailer ≡ plain ++ 0 ∷ 3 ∷ 255 ∷ 255 ∷ 255 ∷ 255 ∷ 255 ∷ 255 ∷ 255 ∷ 255 ∷ 0 ∷ 0 ∷ 0 ∷ 2 ∷ 195 ∷ 169 ∷ 255 ∷ 255 ∷ []
 null_canonical = refl

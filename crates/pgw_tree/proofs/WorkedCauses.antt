@@ -15,6 +15,11 @@ use Rattle.pgw_tree.specs.Causes.{bad_header, bad_flags, truncated_header, no_me
 use Rattle.pgw_copy.proofs.Worked.{bad_magic, cut_in_field, high_flag, minus_two, empty_row}
 use Rattle.pgw_tree.proofs.Worked.{plain, columns, values, field_42, field_null, null_row, plain_is_header, front_42, one_within}
 use Rattle.pgw_tree.proofs.WorkedColumns.{null_breaks, three_bytes, long_text}
+use Rattle.pgw_meta.specs.Known.{Known}
+
+-- No named type is known.
+abbrev unknown : Known
+unknown key = None
 
 -- Nothing is in front of the only column.
 at_first : (most : ℕ) (t : Shape) (cell : Cell) → IsColumnAt most (t ∷ []) (cell ∷ []) 0 t cell
@@ -36,16 +41,16 @@ says (no_memory is allowed part) = ((λ e. absurd (cc (is, e))), (λ e. absurd (
 
 -- At a fault of the header nothing was written: another magic, flags 00010000, and no byte at all, where the source ended
 -- or memory was refused before it was read.
-pub other_magic : fault_says default_limits columns (canonical_front columns) BadHeader (λ written. written ≡ []) (80 ∷ 71 ∷ 67 ∷ 79 ∷ 80 ∷ 89 ∷ 10 ∷ 255 ∷ 13 ∷ 10 ∷ 1 ∷ 0 ∷ 0 ∷ 0 ∷ 0 ∷ 0 ∷ 0 ∷ 0 ∷ 0 ∷ [])
+pub other_magic : fault_says default_limits columns (canonical_front unknown columns) BadHeader (λ written. written ≡ []) (80 ∷ 71 ∷ 67 ∷ 79 ∷ 80 ∷ 89 ∷ 10 ∷ 255 ∷ 13 ∷ 10 ∷ 1 ∷ 0 ∷ 0 ∷ 0 ∷ 0 ∷ 0 ∷ 0 ∷ 0 ∷ 0 ∷ [])
 other_magic = inl (bad_header refl bad_magic, refl)
 
-pub high_flags : fault_says default_limits columns (canonical_front columns) (BadFlags 65536) (λ written. written ≡ []) (magic ++ 0 ∷ 1 ∷ 0 ∷ 0 ∷ 255 ∷ 255 ∷ 255 ∷ 255 ∷ [])
+pub high_flags : fault_says default_limits columns (canonical_front unknown columns) (BadFlags 65536) (λ written. written ≡ []) (magic ++ 0 ∷ 1 ∷ 0 ∷ 0 ∷ 255 ∷ 255 ∷ 255 ∷ 255 ∷ [])
 high_flags = inl (bad_flags 65536 refl high_flag, refl)
 
-pub no_header : fault_says default_limits columns (canonical_front columns) Truncated (λ written. written ≡ []) []
+pub no_header : fault_says default_limits columns (canonical_front unknown columns) Truncated (λ written. written ≡ []) []
 no_header = inl (truncated_header refl (inl (lit< tt)), refl)
 
-pub no_header_memory : fault_says default_limits columns (canonical_front columns) NoMemory (λ written. written ≡ []) []
+pub no_header_memory : fault_says default_limits columns (canonical_front unknown columns) NoMemory (λ written. written ≡ []) []
 no_header_memory = inl (no_memory_at_first refl refl, refl)
 
 -- Behind one row: a row that ends inside its field, no byte at all, and the count -2.
@@ -105,7 +110,7 @@ long_value = too_long (Some (97 ∷ 98 ∷ 99 ∷ []) ∷ []) 0 refl (record { a
     row = record { fields = 0 ∷ 0 ∷ 0 ∷ 3 ∷ 97 ∷ 98 ∷ 99 ∷ []; few = lit< tt; each = (_, [], (lit< tt, refl), refl, refl); is = refl }
 
 -- A null in the second row stops the copy there, when the first row was written.
-pub stopped : Stopped default_limits columns (canonical_front columns) (BadValue 1 0 Null) (λ written. written ≡ plain ++ 0 ∷ 1 ∷ field_42) (plain ++ 0 ∷ 1 ∷ 0 ∷ 0 ∷ 0 ∷ 4 ∷ 0 ∷ 0 ∷ 0 ∷ 42 ∷ 0 ∷ 1 ∷ 255 ∷ 255 ∷ 255 ∷ 255 ∷ [])
+pub stopped : Stopped default_limits columns (canonical_front unknown columns) (BadValue 1 0 Null) (λ written. written ≡ plain ++ 0 ∷ 1 ∷ field_42) (plain ++ 0 ∷ 1 ∷ 0 ∷ 0 ∷ 0 ∷ 4 ∷ 0 ∷ 0 ∷ 0 ∷ 42 ∷ 0 ∷ 1 ∷ 255 ∷ 255 ∷ 255 ∷ 255 ∷ [])
 stopped = record {
   front = plain ++ 0 ∷ 1 ∷ field_42;
   behind = 0 ∷ 1 ∷ field_null;
@@ -118,17 +123,17 @@ stopped = record {
 }
 
 -- A sink that failed behind the first three bytes of the header, inside the row, and behind one byte of the end.
-pub part_of_header : Unwritten default_limits columns (canonical_front columns) (λ written. written ≡ 80 ∷ 71 ∷ 67 ∷ []) plain
+pub part_of_header : Unwritten default_limits columns (canonical_front unknown columns) (λ written. written ≡ 80 ∷ 71 ∷ 67 ∷ []) plain
 part_of_header = in_header plain_is_header (record { front = 80 ∷ 71 ∷ 67 ∷ []; rest = _; is = refl; missing = lit≤ tt; written = refl })
 
-pub part_of_row : Unwritten default_limits columns (canonical_front columns) (λ written. written ≡ plain ++ 0 ∷ 1 ∷ 0 ∷ []) (plain ++ 0 ∷ 1 ∷ field_42)
+pub part_of_row : Unwritten default_limits columns (canonical_front unknown columns) (λ written. written ≡ plain ++ 0 ∷ 1 ∷ 0 ∷ []) (plain ++ 0 ∷ 1 ∷ field_42)
 part_of_row = in_row [] values (0 ∷ 1 ∷ field_42) front_42 one_within refl (record { front = 0 ∷ 1 ∷ 0 ∷ []; rest = 0 ∷ 0 ∷ 4 ∷ 0 ∷ 0 ∷ 0 ∷ 42 ∷ []; is = refl; missing = lit≤ tt; written = refl })
 
-pub part_of_end : Unwritten default_limits columns (canonical_front columns) (λ written. written ≡ plain ++ 0 ∷ 1 ∷ field_42 ++ 255 ∷ []) (plain ++ 0 ∷ 1 ∷ field_42 ++ 255 ∷ 255 ∷ [])
+pub part_of_end : Unwritten default_limits columns (canonical_front unknown columns) (λ written. written ≡ plain ++ 0 ∷ 1 ∷ field_42 ++ 255 ∷ []) (plain ++ 0 ∷ 1 ∷ field_42 ++ 255 ∷ 255 ∷ [])
 part_of_end = in_end (values ∷ []) (plain ++ 0 ∷ 1 ∷ field_42) front_42 one_within refl (inl (record { front = 255 ∷ []; rest = 255 ∷ []; is = refl; missing = lit≤ tt; written = refl }))
 
 -- and one that was not settled behind all of the end
-pub unsettled_end : Unwritten default_limits columns (canonical_front columns) (λ written. written ≡ plain ++ 0 ∷ 1 ∷ field_42 ++ 255 ∷ 255 ∷ []) (plain ++ 0 ∷ 1 ∷ field_42 ++ 255 ∷ 255 ∷ [])
+pub unsettled_end : Unwritten default_limits columns (canonical_front unknown columns) (λ written. written ≡ plain ++ 0 ∷ 1 ∷ field_42 ++ 255 ∷ 255 ∷ []) (plain ++ 0 ∷ 1 ∷ field_42 ++ 255 ∷ 255 ∷ [])
 unsettled_end = in_end (values ∷ []) (plain ++ 0 ∷ 1 ∷ field_42) front_42 one_within refl (inr refl)
 
 -- A header of which all was written is not one in which the sink failed.
@@ -136,5 +141,5 @@ pub whole_header : WroteFront (λ written. written ≡ plain) plain → ⊥
 whole_header f = omega (arith, f.missing, ap length f.is, length-append f.front f.rest, ap length f.written)
 
 -- That is what a write fault says.
-pub write_fault : fault_says default_limits columns (canonical_front columns) WriteFault (λ written. written ≡ plain ++ 0 ∷ 1 ∷ 0 ∷ []) (plain ++ 0 ∷ 1 ∷ field_42)
+pub write_fault : fault_says default_limits columns (canonical_front unknown columns) WriteFault (λ written. written ≡ plain ++ 0 ∷ 1 ∷ 0 ∷ []) (plain ++ 0 ∷ 1 ∷ field_42)
 write_fault = inr (inr (refl, part_of_row))

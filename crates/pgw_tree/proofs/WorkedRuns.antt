@@ -4,12 +4,17 @@ use Rattle.std.specs.List.{flat_map}
 use Rattle.std.proofs.lemmas.Grind.{flat_map-append}
 use Rattle.pgw_copy.specs.Format.{IsField}
 use Rattle.pgw_meta.specs.Shape.{Shape, scalar, int4, text, nullable}
-use Rattle.pgw_cell.specs.Value.{Value, null, truth, number, bytes, string, network, interval, numeric}
+use Rattle.pgw_cell.specs.Value.{Value, null, truth, number, bytes, string, network, interval, numeric, list}
 use Rattle.pgw_tree.specs.Canonical.{canonical_row}
 use Rattle.pgw_tree.specs.Copying.{IsValuesRow}
 use Rattle.pgw_tree.specs.Plain.{IsPlainRow, ArePlainRows}
 use Rattle.pgw_tree.specs.Runs.{AreRespelled, EndsInRow}
 use Rattle.pgw_tree.proofs.Worked.{int4_42, no_bytes, e_acute}
+use Rattle.pgw_meta.specs.Known.{Known}
+
+-- No named type is known.
+abbrev unknown : Known
+unknown key = None
 
 abbrev columns : List Shape
 columns = nullable (scalar int4) ∷ scalar text ∷ []
@@ -56,24 +61,24 @@ minus_one = (4294967295, lit≤ tt, lit< tt, refl)
 minus_two : IsField None (255 ∷ 255 ∷ 255 ∷ 254 ∷ [])
 minus_two = (4294967294, lit≤ tt, lit< tt, refl)
 
-first_plain : IsPlainRow 4 columns first_row first_values
+first_plain : IsPlainRow unknown 4 columns first_row first_values
 first_plain = record { row = first_valid; is = refl }
 
-second_plain : IsPlainRow 4 columns second_row second_values
+second_plain : IsPlainRow unknown 4 columns second_row second_values
 second_plain = record { row = null_row (255 ∷ 255 ∷ 255 ∷ 255 ∷ []) minus_one; is = refl }
 
 -- Both are canonical as they stand.
-pub two_plain : ArePlainRows 4 columns (first_row ++ second_row) both
+pub two_plain : ArePlainRows unknown 4 columns (first_row ++ second_row) both
 two_plain = (first_row, second_row, first_plain, (second_row, [], second_plain, refl, refl), refl)
 
 -- The row whose null has the length -2 is not, whatever its values are.
 abbrev other_row : List ℕ
 other_row = 0 ∷ 2 ∷ 255 ∷ 255 ∷ 255 ∷ 254 ∷ 0 ∷ 0 ∷ 0 ∷ 0 ∷ []
 
-pub other_not_plain : (values : List Value) → IsPlainRow 4 columns other_row values → ⊥
+pub other_not_plain : (values : List Value) → IsPlainRow unknown 4 columns other_row values → ⊥
 other_not_plain values p = none values p.is
   where
-    none : (values : List Value) → other_row ≡ canonical_row columns values → ⊥
+    none : (values : List Value) → other_row ≡ canonical_row unknown columns values → ⊥
     none [] e = omega (arith, ap length e)
     none (null ∷ vs) e = omega (arith, ap (λ l. get_or l 5 0) e)
     none (truth b ∷ vs) e = omega (arith, ap (λ l. get_or l 2 0) e)
@@ -83,9 +88,10 @@ other_not_plain values p = none values p.is
     none (network x ∷ vs) e = omega (arith, ap (λ l. get_or l 2 0) e)
     none (interval x ∷ vs) e = omega (arith, ap (λ l. get_or l 2 0) e)
     none (numeric x ∷ vs) e = omega (arith, ap (λ l. get_or l 2 0) e)
+    none (list x ∷ vs) e = omega (arith, ap (λ l. get_or l 2 0) e)
 
 -- It is respelled as the second row.
-pub respelled : AreRespelled 4 columns 1 second_row other_row
+pub respelled : AreRespelled unknown 4 columns 1 second_row other_row
 respelled = record {
   rows = second_values ∷ [];
   as_many = refl;
@@ -94,17 +100,17 @@ respelled = record {
 }
 
 -- not as itself
-pub not_as_it_stands : AreRespelled 4 columns 1 other_row other_row → ⊥
+pub not_as_it_stands : AreRespelled unknown 4 columns 1 other_row other_row → ⊥
 not_as_it_stands h = none h.rows h.as_many h.plain
   where
-    none : (rows : List (List Value)) → length rows ≡ 1 → ArePlainRows 4 columns other_row rows → ⊥
+    none : (rows : List (List Value)) → length rows ≡ 1 → ArePlainRows unknown 4 columns other_row rows → ⊥
     none [] one plain = omega (arith, one)
     none (vs ∷ ws ∷ rows) one plain = omega (arith, one)
-    none (vs ∷ []) one plain = other_not_plain vs (subst (λ (l : List ℕ). IsPlainRow 4 columns l vs) (sym (append-nil plain.0) ∙ ap (λ l. plain.0 ++ l) (sym plain.3) ∙ sym plain.4) plain.2)
+    none (vs ∷ []) one plain = other_not_plain vs (subst (λ (l : List ℕ). IsPlainRow unknown 4 columns l vs) (sym (append-nil plain.0) ∙ ap (λ l. plain.0 ++ l) (sym plain.3) ∙ sym plain.4) plain.2)
 
 -- Behind 15 of the canonical bytes the next byte is in the first row, and behind 16 in the second; behind all 26 in none.
 -- Here the second row is read with the length -2.
-pub ends_in_first : EndsInRow 4 columns both 15 first_row
+pub ends_in_first : EndsInRow unknown 4 columns both 15 first_row
 ends_in_first = record {
   before = [];
   after = second_values ∷ [];
@@ -119,7 +125,7 @@ ends_in_first = record {
   is = refl;
 }
 
-pub ends_in_second : EndsInRow 4 columns both 16 (first_row ++ other_row)
+pub ends_in_second : EndsInRow unknown 4 columns both 16 (first_row ++ other_row)
 ends_in_second = record {
   before = first_values ∷ [];
   after = [];
@@ -134,8 +140,8 @@ ends_in_second = record {
   is = refl;
 }
 
-pub ends_in_none : (run : List ℕ) → EndsInRow 4 columns both 26 run → ⊥
+pub ends_in_none : (run : List ℕ) → EndsInRow unknown 4 columns both 26 run → ⊥
 ends_in_none run h =
-    let form = canonical_row columns in
+    let form = canonical_row unknown columns in
     let all = ap (λ rows. length (flat_map form rows)) h.rows_are ∙ ap length (flat_map-append form h.before (h.last ∷ h.after)) in
     omega (arith, h.ends, all, length-append (flat_map form h.before) (flat_map form (h.last ∷ h.after)), length-append (form h.last) (flat_map form h.after))

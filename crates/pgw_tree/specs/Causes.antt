@@ -9,6 +9,7 @@ use Rattle.pgw_copy.specs.Reader.{IsBadHeader, HasHighFlags, IsBadCount, IsWhole
 use Rattle.pgw_tree.specs.declared.fault.CopyFault.{CopyFault}
 use Rattle.pgw_tree.specs.declared.fault.CopyFault.TheVariants.{BadHeader, BadFlags, Truncated, BadFieldCount, UnexpectedEndOfRow, BadValue, TooLong, RowLimit, ReadFault, WriteFault, NoMemory}
 use Rattle.pgw_meta.specs.Shape.{Shape}
+use Rattle.pgw_meta.specs.declared.found_oids.Found.{Found}
 use Rattle.pgw_cell.specs.Value.{Value}
 use Rattle.pgw_tree.specs.Columns.{BreaksAt, IsLongAt}
 use Rattle.pgw_tree.specs.Stream.{IsFront, IsWithin, IsStream, IsStreamOf}
@@ -93,16 +94,23 @@ pub data Unwritten (limits : Limits) (columns : List Shape) (form : Form) (Writt
       → taken ≡ front ++ trailer → WroteBehind Written (form rows) trailer ⊎ Written (form rows ++ trailer)
       → Unwritten limits columns form Written taken
 
+-- what a fault says that comes behind the header
+abbrev pub rows_say : Limits → List Shape → Form → CopyFault → (List ℕ → Type 0) → List ℕ → Type 0
+rows_say limits columns form fault Written taken =
+    Stopped limits columns form fault Written taken
+    ⊎ ((fault ≡ WriteFault) × Unwritten limits columns form Written taken)
+
 -- What a fault says of all bytes that were taken, and of those that were written. A fault of the header comes before
 -- anything is written. Behind it the form of the rows before was written; where the sink failed itself, the end of
 -- what was written last may be missing.
 abbrev pub fault_says : Limits → List Shape → Form → CopyFault → (List ℕ → Type 0) → List ℕ → Type 0
 fault_says limits columns form fault Written taken =
-    (HeaderCause fault taken × Written []) ⊎ Stopped limits columns form fault Written taken
-    ⊎ ((fault ≡ WriteFault) × Unwritten limits columns form Written taken)
+    (HeaderCause fault taken × Written []) ⊎ rows_say limits columns form fault Written taken
 
 -- What a fault of a copy says that looks up first what its columns need: one of the lookup comes before anything is
--- taken or written, and each other is of the stream.
-abbrev pub copy_says : Limits → List Shape → Form → CopyFault → (List ℕ → Type 0) → List ℕ → Type 0
-copy_says limits columns form fault Written taken =
-    (IsLookupFault fault × (taken ≡ []) × Written []) ⊎ fault_says limits columns form fault Written taken
+-- taken or written, and each other is of the stream. Behind its header the form of rows goes by entries that were found.
+abbrev pub copy_says : Limits → List Shape → (List Found → Type 0) → (List Found → Form) → CopyFault
+    → (List ℕ → Type 0) → List ℕ → Type 0
+copy_says limits columns Finds form fault Written taken =
+    (IsLookupFault fault × (taken ≡ []) × Written []) ⊎ (HeaderCause fault taken × Written [])
+    ⊎ ((found : List Found) × Finds found × rows_say limits columns (form found) fault Written taken)

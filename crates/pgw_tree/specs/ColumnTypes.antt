@@ -1,6 +1,7 @@
 -- What is known of the types of columns whose rows are copied.
 use Rattle.std.specs.Prelude.{List, map, refl}
 use Rattle.std.specs.List.{AllByRecursion, AllByRecursion-prop}
+use Rattle.pgw_meta.specs.Known.{Known}
 use Rattle.pgw_meta.specs.Shape.{Shape, scalar, nullable, array, range, multirange, composite, named}
 use Rattle.pgw_cell.specs.Built.{IsBuilt}
 use Rattle.pgw_cell.specs.Plain.{plain_cell}
@@ -14,7 +15,7 @@ AreBuilt columns = AllByRecursion IsBuilt columns
 IsBuilt-prop : (t : Shape) → IsProp (IsBuilt t)
 IsBuilt-prop (scalar s) = λ x y. refl
 IsBuilt-prop (nullable t) = IsBuilt-prop t
-IsBuilt-prop (array t) = λ x y. absurd x
+IsBuilt-prop (array t) = IsBuilt-prop t
 IsBuilt-prop (range t) = λ x y. absurd x
 IsBuilt-prop (multirange t) = λ x y. absurd x
 IsBuilt-prop (composite ts) = λ x y. absurd x
@@ -23,6 +24,6 @@ IsBuilt-prop (named k t) = IsBuilt-prop t
 pub AreBuilt-prop : (columns : List Shape) → IsProp (AreBuilt columns)
 AreBuilt-prop columns = AllByRecursion-prop IsBuilt IsBuilt-prop columns
 
--- by what canonical fields of the columns are known
-abbrev pub plain_cells : List Shape → List PlainCell
-plain_cells columns = map plain_cell columns
+-- by what canonical fields of the columns are known, where these are the oids of named types
+abbrev pub plain_cells : Known → List Shape → List PlainCell
+plain_cells known columns = map (plain_cell known) columns

@@ -11,6 +11,7 @@ use Rattle.pgw_tree.specs.Spells.{SpellsRow}
 use Rattle.pgw_tree.specs.Canonical.{FitsRow, canonical_front}
 use Rattle.pgw_tree.specs.Stream.{IsFront, IsWithin}
 use Rattle.pgw_tree.specs.Limits.{Limits}
+use Rattle.pgw_meta.specs.Known.{Known}
 
 -- a row whose first cells spell these values, which fit
 pub record IsValuesRow (most : ℕ) (columns : List Shape) (bytes : List ℕ) (values : List Value) : Type 0 where
@@ -26,10 +27,10 @@ abbrev pub Copies : {X Origin : Type 0} → SourceState Origin → SourceState O
 Copies before now result P Fault = Takes Truncated ReadFault before now result P Fault
 
 -- the rows so far: the front that spells them was taken, and its canonical form was written
-pub record IsCopying (limits : Limits) (columns : List Shape) (n : ℕ) (Written : List ℕ → Type 0)
+pub record IsCopying (known : Known) (limits : Limits) (columns : List Shape) (n : ℕ) (Written : List ℕ → Type 0)
     (taken : List ℕ) : Type 0 where
   pub rows : List (List Value)
   pub begins : IsFront columns taken rows
   pub within : IsWithin limits columns rows
   pub many : length rows ≡ n
-  pub written : Written (canonical_front columns rows)
+  pub written : Written (canonical_front known columns rows)

@@ -7,6 +7,7 @@ use Rattle.pgw_meta.specs.Shape.{Shape}
 use Rattle.pgw_cell.specs.Value.{Value}
 use Rattle.pgw_tree.specs.Canonical.{canonical_cells}
 use Rattle.pgw_tree.specs.Columns.{SpellsFit}
+use Rattle.pgw_meta.specs.Known.{Known}
 
 -- The bytes begin with the fields of these cells.
 pub record StartsWithFields (cells : List Cell) (bytes : List ℕ) : Type 0 where
@@ -21,11 +22,11 @@ pub record HasRowFields (columns : List Shape) (cells : List Cell) (bytes : List
   pub enough : length columns ≤ length cells
 
 -- the canonical fields of values, one behind the other
-abbrev pub canonical_fields : List Shape → List Value → List ℕ
-canonical_fields columns values = flat_map frame (canonical_cells columns values)
+abbrev pub canonical_fields : Known → List Shape → List Value → List ℕ
+canonical_fields known columns values = flat_map frame (canonical_cells known columns values)
 
 -- The first cells of a row spell values that fit, whose canonical fields have so many bytes together.
-pub record MeasuresRow (most : ℕ) (columns : List Shape) (cells : List Cell) (size : ℕ) : Type 0 where
+pub record MeasuresRow (known : Known) (most : ℕ) (columns : List Shape) (cells : List Cell) (size : ℕ) : Type 0 where
   pub values : List Value
   pub first : SpellsFit most columns cells values
-  pub counted : size ≡ length (canonical_fields columns values)
+  pub counted : size ≡ length (canonical_fields known columns values)

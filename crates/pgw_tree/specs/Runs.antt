@@ -14,16 +14,17 @@ use Rattle.pgw_tree.specs.declared.fault.CopyFault.TheVariants.{ReadFault, Write
 use Rattle.pgw_tree.specs.Copying.{IsValuesRow}
 use Rattle.pgw_tree.specs.declared.shown.CopiedFront.{CopiedFront}
 use Rattle.pgw_tree.specs.declared.shown.CopiedFront.TheVariants.{Whole, Broken}
+use Rattle.pgw_meta.specs.Known.{Known}
 
 -- So many rows, one behind the other, and their canonical form, whose fields fit.
-pub record AreRespelled (most : ℕ) (columns : List Shape) (many : ℕ) (canonical bytes : List ℕ) : Type 0 where
+pub record AreRespelled (known : Known) (most : ℕ) (columns : List Shape) (many : ℕ) (canonical bytes : List ℕ) : Type 0 where
   pub rows : List (List Value)
   pub as_many : length rows ≡ many
   pub each : AreRows columns bytes rows
-  pub plain : ArePlainRows most columns canonical rows
+  pub plain : ArePlainRows known most columns canonical rows
 
 -- Of these rows the bytes are the first ones, through the one in whose canonical form the byte behind so many is.
-pub record EndsInRow (most : ℕ) (columns : List Shape) (rows : List (List Value)) (sent : ℕ)
+pub record EndsInRow (known : Known) (most : ℕ) (columns : List Shape) (rows : List (List Value)) (sent : ℕ)
     (bytes : List ℕ) : Type 0 where
   pub before : List (List Value)
   pub last : List Value
@@ -34,30 +35,30 @@ pub record EndsInRow (most : ℕ) (columns : List Shape) (rows : List (List Valu
   pub each : AreRows columns front before
   pub is_last : IsValuesRow most columns row last
   pub is : bytes ≡ front ++ row
-  pub begun : length (flat_map (canonical_row columns) before) ≤ sent
-  pub ends : sent < length (flat_map (canonical_row columns) before) + length (canonical_row columns last)
+  pub begun : length (flat_map (canonical_row known columns) before) ≤ sent
+  pub ends : sent < length (flat_map (canonical_row known columns) before) + length (canonical_row known columns last)
 
 -- In front of the rest stands a row whose first cells spell values that fit, and their canonical row was appended.
-pub record RespellsRow (most : ℕ) (columns : List Shape) (bytes rest old new : List ℕ) : Type 0 where
+pub record RespellsRow (known : Known) (most : ℕ) (columns : List Shape) (bytes rest old new : List ℕ) : Type 0 where
   pub row : List ℕ
   pub values : List Value
   pub is_row : IsValuesRow most columns row values
   pub is : bytes ≡ row ++ rest
-  pub appended : new ≡ old ++ canonical_row columns values
+  pub appended : new ≡ old ++ canonical_row known columns values
 
 -- Behind so many rows some more were copied, so that there are that many now: they stand one behind the other, their
 -- values are within the limits, and their canonical form was written.
-pub record IsRun (limits : Limits) (columns : List Shape) (before after : ℕ) (Written : List ℕ → Type 0)
+pub record IsRun (known : Known) (limits : Limits) (columns : List Shape) (before after : ℕ) (Written : List ℕ → Type 0)
     (bytes : List ℕ) : Type 0 where
   pub rows : List (List Value)
   pub each : AreRows columns bytes rows
   pub fit : AllByRecursion (FitsRow limits.field_max columns) rows
   pub counted : after ≡ before + length rows
   pub few : after ≤ limits.rows_max
-  pub written : Written (flat_map (canonical_row columns) rows)
+  pub written : Written (flat_map (canonical_row known columns) rows)
 
 -- The sink failed in the last of these rows, of which it has a front of the canonical form.
-pub record IsBrokenRun (limits : Limits) (columns : List Shape) (before : ℕ) (Written : List ℕ → Type 0)
+pub record IsBrokenRun (known : Known) (limits : Limits) (columns : List Shape) (before : ℕ) (Written : List ℕ → Type 0)
     (bytes : List ℕ) : Type 0 where
   pub rows : List (List Value)
   pub last : List Value
@@ -68,26 +69,26 @@ pub record IsBrokenRun (limits : Limits) (columns : List Shape) (before : ℕ) (
   pub is_last : IsValuesRow limits.field_max columns row last
   pub is : bytes ≡ front ++ row
   pub few : before + length rows < limits.rows_max
-  pub part : WroteBehind Written (flat_map (canonical_row columns) rows) (canonical_row columns last)
+  pub part : WroteBehind Written (flat_map (canonical_row known columns) rows) (canonical_row known columns last)
 
 -- Of a call that takes a row or the end, behind so many rows: a row that was copied, or the end, at which nothing was
 -- written.
-abbrev pub IsNextRow : Limits → List Shape → ℕ → (List ℕ → Type 0) → Bool → List ℕ → Type 0
-IsNextRow limits columns before Written true bytes = IsRun limits columns before (before + 1) Written bytes
-IsNextRow limits columns before Written false bytes = (bytes ≡ trailer) × Written []
+abbrev pub IsNextRow : Known → Limits → List Shape → ℕ → (List ℕ → Type 0) → Bool → List ℕ → Type 0
+IsNextRow known limits columns before Written true bytes = IsRun known limits columns before (before + 1) Written bytes
+IsNextRow known limits columns before Written false bytes = (bytes ≡ trailer) × Written []
 
 -- what a fault of copying rows says: its cause, at which nothing was written; or that the sink failed in a row
-abbrev pub rows_fault : Limits → List Shape → ℕ → (List ℕ → Type 0) → CopyFault → List ℕ → Type 0
-rows_fault limits columns before Written fault bytes =
+abbrev pub rows_fault : Known → Limits → List Shape → ℕ → (List ℕ → Type 0) → CopyFault → List ℕ → Type 0
+rows_fault known limits columns before Written fault bytes =
     (RowCause limits columns before fault bytes × Written [])
-    ⊎ ((fault ≡ WriteFault) × IsBrokenRun limits columns before Written bytes)
+    ⊎ ((fault ≡ WriteFault) × IsBrokenRun known limits columns before Written bytes)
 
 -- what a fault of copying the rows that a source shows says: it failed, and nothing was taken or written; or the sink failed
 -- in a row
-abbrev pub shown_fault : Limits → List Shape → ℕ → (List ℕ → Type 0) → CopyFault → List ℕ → Type 0
-shown_fault limits columns before Written fault bytes =
+abbrev pub shown_fault : Known → Limits → List Shape → ℕ → (List ℕ → Type 0) → CopyFault → List ℕ → Type 0
+shown_fault known limits columns before Written fault bytes =
     ((fault ≡ ReadFault) × (bytes ≡ []) × Written [])
-    ⊎ ((fault ≡ WriteFault) × IsBrokenRun limits columns before Written bytes)
+    ⊎ ((fault ≡ WriteFault) × IsBrokenRun known limits columns before Written bytes)
 
 abbrev pub length_of : CopiedFront → ℕ
 length_of (Whole rows len) = len
@@ -99,8 +100,8 @@ rows_of (Whole rows len) = Some rows
 rows_of (Broken len) = None
 
 -- what the copy of rows at the front of bytes did, which stands behind so many
-abbrev pub copied_says : Limits → List Shape → ℕ → (List ℕ → Type 0) → Type 0 → List ℕ → CopiedFront → Type 0
-copied_says limits columns before Written failed bytes (Whole rows len) =
-    (len ≤ length bytes) × IsRun limits columns before rows Written (take len bytes)
-copied_says limits columns before Written failed bytes (Broken len) =
-    (len ≤ length bytes) × IsBrokenRun limits columns before Written (take len bytes) × failed
+abbrev pub copied_says : Known → Limits → List Shape → ℕ → (List ℕ → Type 0) → Type 0 → List ℕ → CopiedFront → Type 0
+copied_says known limits columns before Written failed bytes (Whole rows len) =
+    (len ≤ length bytes) × IsRun known limits columns before rows Written (take len bytes)
+copied_says known limits columns before Written failed bytes (Broken len) =
+    (len ≤ length bytes) × IsBrokenRun known limits columns before Written (take len bytes) × failed

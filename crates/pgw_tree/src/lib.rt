@@ -18,7 +18,7 @@ mod stream;
 pub use fault::CopyFault;
 pub use limits::{FIELD_MAX, Limits};
 pub use pgw_cell::{
-    ByteList, CellFault, Datum, DigitList, MeasureFault, WriteCellFault, laws, measure_cell,
-    read_cell, rewrite_cell, write_cell,
+    ByteList, CellFault, Datum, DatumList, DigitList, MeasureFault, WriteCellFault, laws,
+    measure_cell, read_cell, rewrite_cell, write_cell,
 };
 pub use stream::{Copied, recopy};

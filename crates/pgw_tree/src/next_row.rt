@@ -1,4 +1,5 @@
 ghost use Rattle.std.specs.Prelude.{◌≡◌, ◌≢◌, ◌<◌, ◌≤◌, ◌^◌, List, length, true, OnOk, IfErr, Ok, Err};
+ghost use Rattle.pgw_meta.specs.NamedOids.{known_of};
 ghost use Rattle.pgw_wire.specs.Outside.{HasFailed, Wrote, WroteFront};
 ghost use Rattle.pgw_copy.specs.Format.{IsRow};
 ghost use Rattle.pgw_copy.specs.State.{cells_of, bytes_of, ready};
@@ -28,7 +29,7 @@ fn fill_row(
     requires max { field_max ≤ 2147483647 }
     requires row { IsRow (cells_of row.now) (bytes_of row.now) }
     ensures ok { OnOk result ((values : List Value) × SpellsFit field_max (column_shapes columns.now.types.now) (cells_of row.now) values
-        × (writer.new.bytes ≡ canonical_row (column_shapes columns.now.types.now) values)) }
+        × (writer.new.bytes ≡ canonical_row (known_of columns.now.found.now) (column_shapes columns.now.types.now) values)) }
     ensures err { IfErr result (SendCause field_max (column_shapes columns.now.types.now) (cells_of row.now) ⊥) }
 {
     if row.len() < columns.types.len() {
@@ -51,10 +52,10 @@ fn send_values<K: Sink>(
     requires max { field_max ≤ 2147483647 }
     requires row { IsRow (cells_of row.now) (bytes_of row.now) }
     ensures ok { OnOk result ((values : List Value) × SpellsFit field_max (column_shapes columns.now.types.now) (cells_of row.now) values
-        × Wrote (K.state sink.old) (K.state sink.new) (canonical_row (column_shapes columns.now.types.now) values)) }
+        × Wrote (K.state sink.old) (K.state sink.new) (canonical_row (known_of columns.now.found.now) (column_shapes columns.now.types.now) values)) }
     ensures err { IfErr result (SendCause field_max (column_shapes columns.now.types.now) (cells_of row.now)
         ((values : List Value) × SpellsFit field_max (column_shapes columns.now.types.now) (cells_of row.now) values
-        × WroteFront (Wrote (K.state sink.old) (K.state sink.new)) (canonical_row (column_shapes columns.now.types.now) values)
+        × WroteFront (Wrote (K.state sink.old) (K.state sink.new)) (canonical_row (known_of columns.now.found.now) (column_shapes columns.now.types.now) values)
         × HasFailed (K.state sink.old) (K.state sink.new))) }
     ensures unwritten { IfErr result (λ fault. fault ≢ SendFault.WriteFault → sink.new ≡ sink.old) }
 {
@@ -87,8 +88,8 @@ pub(crate) fn copy_row<S: Source, K: Sink>(
     requires ready { reader.old ≡ ready }
     requires allowed { rows ≤ limits.rows_max }
     ensures takes { Copies (S.state source.old) (S.state source.new) result
-        (IsNextRow limits (column_shapes columns.now.types.now) rows (Wrote (K.state sink.old) (K.state sink.new)))
-        (rows_fault limits (column_shapes columns.now.types.now) rows (Wrote (K.state sink.old) (K.state sink.new))) }
+        (IsNextRow (known_of columns.now.found.now) limits (column_shapes columns.now.types.now) rows (Wrote (K.state sink.old) (K.state sink.new)))
+        (rows_fault (known_of columns.now.found.now) limits (column_shapes columns.now.types.now) rows (Wrote (K.state sink.old) (K.state sink.new))) }
     ensures ready { result ≡ Ok true → reader.new ≡ ready }
     ensures more { result ≡ Ok true → rows < limits.rows_max }
     ensures write_fault { result ≡ Err CopyFault.WriteFault → HasFailed (K.state sink.old) (K.state sink.new) }

@@ -1,4 +1,5 @@
 ghost use Rattle.std.specs.Prelude.{◌≡◌, ◌≤◌, ◌++◌, List, ℕ, IfSome};
+ghost use Rattle.pgw_meta.specs.NamedOids.{known_of};
 ghost use Rattle.pgw_meta.specs.Types.{column_shapes};
 ghost use Rattle.pgw_cell.specs.Value.{Value};
 ghost use Rattle.pgw_tree.specs.Plain.{IsPlainFields, IsPlainRow, IsPlainRun};
@@ -16,7 +17,7 @@ pub(crate) fn behind_plain_fields<'a>(
 ) -> Option<&'a [u8]>
     requires max { field_max ≤ 2147483647 }
     ensures some { IfSome result (λ rest. (fields : List ℕ) × (values : List Value)
-        × IsPlainFields field_max (column_shapes columns.now.types.now) values fields × (bytes.now ≡ fields ++ rest.now)) }
+        × IsPlainFields (known_of columns.now.found.now) field_max (column_shapes columns.now.types.now) values fields × (bytes.now ≡ fields ++ rest.now)) }
 {
     let mut rest = bytes;
     for (_place, cell) in columns.plain.iter().enumerate() {
@@ -30,7 +31,7 @@ pub(crate) fn behind_plain_fields<'a>(
 fn behind_plain_row<'a>(columns: &Columns<'_>, field_max: u32, bytes: &'a [u8]) -> Option<&'a [u8]>
     requires max { field_max ≤ 2147483647 }
     ensures some { IfSome result (λ rest. (row : List ℕ) × (values : List Value)
-        × IsPlainRow field_max (column_shapes columns.now.types.now) row values × (bytes.now ≡ row ++ rest.now)) }
+        × IsPlainRow (known_of columns.now.found.now) field_max (column_shapes columns.now.types.now) row values × (bytes.now ≡ row ++ rest.now)) }
 {
     let (count, fields) = take_u16(bytes)?;
     if count as usize != columns.plain.len() {
@@ -50,7 +51,7 @@ pub(crate) struct Run<'a> {
 #[inline(always)]
 fn walk<'a>(columns: &Columns<'_>, field_max: u32, most: u64, bytes: &'a [u8]) -> Run<'a>
     requires max { field_max ≤ 2147483647 }
-    ensures { IsPlainRun field_max (column_shapes columns.now.types.now) most bytes.now result.bytes.now result.rows }
+    ensures { IsPlainRun (known_of columns.now.found.now) field_max (column_shapes columns.now.types.now) most bytes.now result.bytes.now result.rows }
 {
     let mut rows = 0;
     let mut rest = bytes;
@@ -79,7 +80,7 @@ pub(crate) fn plain_rows<'a>(
     bytes: &'a [u8],
 ) -> Run<'a>
     requires max { field_max ≤ 2147483647 }
-    ensures { IsPlainRun field_max (column_shapes columns.now.types.now) most bytes.now result.bytes.now result.rows }
+    ensures { IsPlainRun (known_of columns.now.found.now) field_max (column_shapes columns.now.types.now) most bytes.now result.bytes.now result.rows }
 {
     if let [only] = columns.plain
         && *only == PlainCell::four_bytes()

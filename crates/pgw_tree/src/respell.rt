@@ -1,4 +1,5 @@
 ghost use Rattle.std.specs.Prelude.{◌≡◌, ◌≤◌, IfSome, IsNone};
+ghost use Rattle.pgw_meta.specs.NamedOids.{known_of};
 ghost use Rattle.std.specs.Io.{StartsWith};
 ghost use Rattle.pgw_meta.specs.Types.{column_shapes};
 ghost use Rattle.pgw_tree.specs.Runs.{AreRespelled, RespellsRow};
@@ -24,7 +25,7 @@ fn respell_row<'a>(
 ) -> Option<&'a [u8]>
     requires max { field_max ≤ 2147483647 }
     ensures some { IfSome result (λ rest.
-        RespellsRow field_max (column_shapes columns.now.types.now) bytes.now rest.now out.old.bytes out.new.bytes) }
+        RespellsRow (known_of columns.now.found.now) field_max (column_shapes columns.now.types.now) bytes.now rest.now out.old.bytes out.new.bytes) }
     ensures none { IsNone result → out.new.bytes ≡ out.old.bytes }
 {
     let (count, fields) = take_u16(bytes)?;
@@ -58,7 +59,7 @@ pub(crate) fn respell_rows<'a>(
     requires max { field_max ≤ 2147483647 }
     ensures limit { result.rows ≤ most }
     ensures front { StartsWith bytes.now result.bytes.now }
-    ensures rows { AreRespelled field_max (column_shapes columns.now.types.now) result.rows out.new.bytes result.bytes.now }
+    ensures rows { AreRespelled (known_of columns.now.found.now) field_max (column_shapes columns.now.types.now) result.rows out.new.bytes result.bytes.now }
 {
     out.clear();
     let mut rows = 0;

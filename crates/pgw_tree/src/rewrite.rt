@@ -1,4 +1,5 @@
 ghost use Rattle.std.specs.Prelude.{◌≡◌, ◌≤◌, ◌*◌, ◌++◌, List, ℕ, length, OnErr, OnOk, IfOk, IfErr};
+ghost use Rattle.pgw_meta.specs.NamedOids.{known_of};
 ghost use Rattle.std.specs.Int.{to_be_bytes, w16};
 ghost use Rattle.pgw_wire.specs.Cell.{Cell};
 ghost use Rattle.pgw_meta.specs.Types.{column_shapes};
@@ -20,7 +21,7 @@ fn measure_row(columns: &Columns<'_>, field_max: u32, fields: &[u8]) -> Result<u
     requires max { field_max ≤ 2147483647 }
     requires row { (cells : List Cell) × HasRowFields (column_shapes columns.now.types.now) cells fields.now }
     ensures ok { IfOk result (λ size. (cells : List Cell) → HasRowFields (column_shapes columns.now.types.now) cells fields.now
-        → MeasuresRow field_max (column_shapes columns.now.types.now) cells size) }
+        → MeasuresRow (known_of columns.now.found.now) field_max (column_shapes columns.now.types.now) cells size) }
     ensures size { IfOk result (λ size. size ≤ 2147483651 * length columns.now.types.now) }
     ensures err { IfErr result (λ fault. (cells : List Cell) → HasRowFields (column_shapes columns.now.types.now) cells fields.now
         → SendCause field_max (column_shapes columns.now.types.now) cells ⊥ fault) }
@@ -46,11 +47,11 @@ fn measure_row(columns: &Columns<'_>, field_max: u32, fields: &[u8]) -> Result<u
 fn rewrite_row(columns: &Columns<'_>, fields: &[u8], out: &mut ByteBuffer)
     requires row { (cells : List Cell) × (values : List Value) × StartsWithFields cells fields.now
         × SpellsFit 2147483647 (column_shapes columns.now.types.now) cells values
-        × (length (canonical_fields (column_shapes columns.now.types.now) values) ≤ out.old.spare) }
+        × (length (canonical_fields (known_of columns.now.found.now) (column_shapes columns.now.types.now) values) ≤ out.old.spare) }
     ensures { (cells : List Cell) (values : List Value) → StartsWithFields cells fields.now
         → SpellsFit 2147483647 (column_shapes columns.now.types.now) cells values
-        → length (canonical_fields (column_shapes columns.now.types.now) values) ≤ out.old.spare
-        → out.new.bytes ≡ out.old.bytes ++ canonical_fields (column_shapes columns.now.types.now) values }
+        → length (canonical_fields (known_of columns.now.found.now) (column_shapes columns.now.types.now) values) ≤ out.old.spare
+        → out.new.bytes ≡ out.old.bytes ++ canonical_fields (known_of columns.now.found.now) (column_shapes columns.now.types.now) values }
 {
     let mut rest = fields;
     for (_place, t) in columns.types.iter().enumerate() {
@@ -89,7 +90,7 @@ pub(crate) fn push_row(
     requires row { (cells : List Cell) × HasRowFields (column_shapes columns.now.types.now) cells fields.now }
     ensures ok { OnOk result ((cells : List Cell) → HasRowFields (column_shapes columns.now.types.now) cells fields.now
         → (values : List Value) × SpellsFit field_max (column_shapes columns.now.types.now) cells values
-        × (out.new.bytes ≡ out.old.bytes ++ canonical_row (column_shapes columns.now.types.now) values)) }
+        × (out.new.bytes ≡ out.old.bytes ++ canonical_row (known_of columns.now.found.now) (column_shapes columns.now.types.now) values)) }
     ensures err { IfErr result (λ fault. (cells : List Cell) → HasRowFields (column_shapes columns.now.types.now) cells fields.now
         → SendCause field_max (column_shapes columns.now.types.now) cells ⊥ fault) }
     ensures kept { OnErr result (out.new.bytes ≡ out.old.bytes) }

@@ -1,4 +1,6 @@
 ghost use Rattle.std.specs.Prelude.{◌≡◌, ◌<◌, ◌≤◌, ◌^◌, ◌+◌, ◌⊎◌, List, [], ℕ, length, take, Some, IfSome, IsNone, Ok, Err, IfErr};
+ghost use Rattle.pgw_meta.specs.Known.{Known};
+ghost use Rattle.pgw_meta.specs.NamedOids.{known_of};
 ghost use Rattle.pgw_wire.specs.Outside.{HasFailed, Wrote};
 ghost use Rattle.pgw_tree.specs.Copying.{Copies};
 ghost use Rattle.pgw_meta.specs.Shape.{Shape};
@@ -46,11 +48,11 @@ impl CopiedFront {
 
 /// Where among rows the one ends in whose canonical form the byte behind the first `sent` is.
 fn row_end_behind(canonical: &[u8], run: &[u8], sent: usize) -> usize
-    requires rows { (most : ℕ) × (columns : List Shape) × (many : ℕ) × AreRespelled most columns many canonical.now run.now }
+    requires rows { (known : Known) × (most : ℕ) × (columns : List Shape) × (many : ℕ) × AreRespelled known most columns many canonical.now run.now }
     requires inside { sent < length canonical.now }
     ensures within { result ≤ length run.now }
-    ensures row { (most : ℕ) (columns : List Shape) (many : ℕ) (all : AreRespelled most columns many canonical.now run.now)
-        → EndsInRow most columns all.rows sent (take result run.now) }
+    ensures row { (known : Known) (most : ℕ) (columns : List Shape) (many : ℕ) (all : AreRespelled known most columns many canonical.now run.now)
+        → EndsInRow known most columns all.rows sent (take result run.now) }
 {
     let mut rest = canonical;
     let mut run_rest = run;
@@ -75,9 +77,9 @@ fn send_rows<K: Sink>(
     run: &[u8],
     sink: &mut K,
 ) -> CopiedFront
-    requires rows { AreRespelled limits.field_max (column_shapes columns.now.types.now) many canonical.now run.now }
+    requires rows { AreRespelled (known_of columns.now.found.now) limits.field_max (column_shapes columns.now.types.now) many canonical.now run.now }
     requires allowed { before + many ≤ limits.rows_max }
-    ensures copied { copied_says limits (column_shapes columns.now.types.now) before
+    ensures copied { copied_says (known_of columns.now.found.now) limits (column_shapes columns.now.types.now) before
         (Wrote (K.state sink.old) (K.state sink.new)) (HasFailed (K.state sink.old) (K.state sink.new)) run.now result }
     ensures more { (rows len : ℕ) → result ≡ CopiedFront.Whole rows len → rows ≡ before + many }
 {
@@ -106,7 +108,7 @@ fn copy_front<K: Sink>(
     sink: &mut K,
 ) -> Option<CopiedFront>
     requires allowed { before < limits.rows_max }
-    ensures copied { IfSome result (copied_says limits (column_shapes columns.now.types.now) before
+    ensures copied { IfSome result (copied_says (known_of columns.now.found.now) limits (column_shapes columns.now.types.now) before
         (Wrote (K.state sink.old) (K.state sink.new)) (HasFailed (K.state sink.old) (K.state sink.new)) bytes.now) }
     ensures more { (rows len : ℕ) → result ≡ Some (CopiedFront.Whole rows len) → before < rows }
     ensures none { IsNone result → sink.new ≡ sink.old }
@@ -144,7 +146,7 @@ fn copy_rows<K: Sink>(
     sink: &mut K,
 ) -> CopiedFront
     requires allowed { before ≤ limits.rows_max }
-    ensures copied { copied_says limits (column_shapes columns.now.types.now) before
+    ensures copied { copied_says (known_of columns.now.found.now) limits (column_shapes columns.now.types.now) before
         (Wrote (K.state sink.old) (K.state sink.new)) (HasFailed (K.state sink.old) (K.state sink.new)) bytes.now result }
 {
     let mut rows = before;
@@ -183,7 +185,7 @@ struct RowTaker<'a> {
 impl<K: Sink> Taker<K> for RowTaker<'_> {
     ghost takes = { λ taker sink ready n then_ sink_then.
         (n ≡ length_of then_.copied)
-        × copied_says taker.limits (column_shapes taker.columns.now.types.now) taker.before
+        × copied_says (known_of taker.columns.now.found.now) taker.limits (column_shapes taker.columns.now.types.now) taker.before
         (Wrote (K.state sink) (K.state sink_then)) (HasFailed (K.state sink) (K.state sink_then)) ready then_.copied };
 
     #[inline(always)]
@@ -212,8 +214,8 @@ pub(crate) fn copy_shown<S: Source, K: Sink>(
 ) -> Result<u64, CopyFault>
     requires allowed { before ≤ limits.rows_max }
     ensures takes { Copies (S.state source.old) (S.state source.new) result
-        (λ rows. IsRun limits (column_shapes columns.now.types.now) before rows (Wrote (K.state sink.old) (K.state sink.new)))
-        (shown_fault limits (column_shapes columns.now.types.now) before (Wrote (K.state sink.old) (K.state sink.new))) }
+        (λ rows. IsRun (known_of columns.now.found.now) limits (column_shapes columns.now.types.now) before rows (Wrote (K.state sink.old) (K.state sink.new)))
+        (shown_fault (known_of columns.now.found.now) limits (column_shapes columns.now.types.now) before (Wrote (K.state sink.old) (K.state sink.new))) }
     ensures write_fault { result ≡ Err CopyFault.WriteFault → HasFailed (K.state sink.old) (K.state sink.new) }
 {
     let mut taker = RowTaker {

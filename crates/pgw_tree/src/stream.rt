@@ -1,4 +1,5 @@
 ghost use Rattle.std.specs.Prelude.{◌≡◌, ◌⊎◌, ◌<◌, ◌≤◌, ◌^◌, [], length, true, Some, Err, IfOk, OnOk, IsErr, IsErrAnd, IsOkUnless, option_map, ⊤};
+ghost use Rattle.pgw_meta.specs.NamedOids.{known_of};
 ghost use Rattle.std.specs.Io.KnownBytes.{IsAtEnd};
 ghost use Rattle.pgw_wire.specs.Outside.{left, settled, HasFailed, Took, HasFront, HasNoFront, Gains, Wrote, Settled};
 ghost use Rattle.pgw_meta.specs.Known.{Key, Known, known};
@@ -40,9 +41,9 @@ fn copy_stream<S: Source, K: Sink>(
     limits: Limits,
 ) -> Result<u64, CopyFault>
     ensures takes { Copies (S.state source.old) (S.state source.new) result
-        (λ n. IsCopied limits (column_shapes columns.now.types.now) (canonical_front (column_shapes columns.now.types.now)) n
+        (λ n. IsCopied limits (column_shapes columns.now.types.now) (canonical_front (known_of columns.now.found.now) (column_shapes columns.now.types.now)) n
         (Settled (K.state sink.old) (K.state sink.new)))
-        (λ fault. fault_says limits (column_shapes columns.now.types.now) (canonical_front (column_shapes columns.now.types.now)) fault
+        (λ fault. fault_says limits (column_shapes columns.now.types.now) (canonical_front (known_of columns.now.found.now) (column_shapes columns.now.types.now)) fault
         (Wrote (K.state sink.old) (K.state sink.new))) }
     ensures write_fault { result ≡ Err CopyFault.WriteFault → HasFailed (K.state sink.old) (K.state sink.new) }
 {
@@ -77,13 +78,13 @@ fn copy_typed<S: Source, K: Sink>(
     requires few { length types.now < 2 ^ 15 }
     requires built { AreBuilt (column_shapes types.now) }
     ensures takes { Copies (S.state source.old) (S.state source.new) result
-        (λ n. IsCopied limits (column_shapes types.now) (canonical_front (column_shapes types.now)) n
+        (λ n. IsCopied limits (column_shapes types.now) (canonical_front (known_of found.now) (column_shapes types.now)) n
         (Settled (K.state sink.old) (K.state sink.new)))
-        (λ fault. fault_says limits (column_shapes types.now) (canonical_front (column_shapes types.now)) fault
+        (λ fault. fault_says limits (column_shapes types.now) (canonical_front (known_of found.now) (column_shapes types.now)) fault
         (Wrote (K.state sink.old) (K.state sink.new))) }
     ensures write_fault { result ≡ Err CopyFault.WriteFault → HasFailed (K.state sink.old) (K.state sink.new) }
 {
-    let plain = plain_cells_of(alloc, types)?;
+    let plain = plain_cells_of(alloc, types, found)?;
     let columns = Columns {
         types,
         plain: plain.as_slice(),
@@ -105,9 +106,10 @@ fn copy_found<L: PgMetadataLookup, S: Source, K: Sink>(
     requires few { length types.now < 2 ^ 15 }
     requires built { AreBuilt (column_shapes types.now) }
     ensures takes { Copies (S.state source.old) (S.state source.new) result
-        (λ copied. IsCopied limits (column_shapes types.now) (canonical_front (column_shapes types.now)) copied.rows
+        (λ copied. IsCopied limits (column_shapes types.now) (canonical_front (known_of copied.oids) (column_shapes types.now)) copied.rows
         (Settled (K.state sink.old) (K.state sink.new)))
-        (λ fault. copy_says limits (column_shapes types.now) (canonical_front (column_shapes types.now)) fault
+        (λ fault. copy_says limits (column_shapes types.now) (AreFound (known (L.state lookup.old)) (needed_keys needs.now))
+        (λ found. canonical_front (known_of found) (column_shapes types.now)) fault
         (Wrote (K.state sink.old) (K.state sink.new))) }
     ensures write_fault { result ≡ Err CopyFault.WriteFault → HasFailed (K.state sink.old) (K.state sink.new) }
     ensures oids { IfOk result (λ copied. AreFound (known (L.state lookup.old)) (needed_keys needs.now) copied.oids) }
@@ -134,8 +136,9 @@ fn copy_found<L: PgMetadataLookup, S: Source, K: Sink>(
 
 /// Copies a stream of rows of columns of these types, as the manual's page COPY has it under "Binary Format": at Ok the bytes
 /// taken are one stream of as many rows as it answers, through the count -1 that ends it, and the bytes written are the
-/// canonical stream of the same rows. Fields behind the last column are read and ignored. The types have to be of those whose
-/// cells are copied: scalar types that have a spelling in the table of `pgw_cell`, and these or null.
+/// canonical stream of the same rows, under the oids that it answers. Fields behind the last column are read and ignored. The
+/// types have to be of those whose cells are copied: scalar types, and nullable, array and named
+/// types over one of these.
 ///
 /// What the schema needs of named types is looked up first, in order, before anything is read: its oids are answered with the
 /// number of rows. A schema without needs leaves the lookup as it is.
@@ -180,13 +183,15 @@ pub fn recopy<L: PgMetadataLookup, S: Source, K: Sink>(
     // The bytes taken are a stream that spells as many rows as it answers, and the bytes written are their canonical
     // stream.
     ensures copied { IfOk result (λ c. Took (S.state source.old) (S.state source.new)
-        (IsCopied limits (column_shapes schema.now) (canonical_front (column_shapes schema.now)) c.rows
+        (IsCopied limits (column_shapes schema.now) (canonical_front (known_of c.oids) (column_shapes schema.now)) c.rows
         (Settled (K.state sink.old) (K.state sink.new)))) }
     ensures settled { OnOk result (settled (K.state sink.new) ≡ option_map (λ _. true) (settled (K.state sink.old))) }
 
     // What each fault says of the bytes that were taken, and of those that were written.
     ensures fault { (fault : _) → result ≡ Err fault → Took (S.state source.old) (S.state source.new)
-        (copy_says limits (column_shapes schema.now) (canonical_front (column_shapes schema.now)) fault
+        (copy_says limits (column_shapes schema.now)
+        (AreFound (known (L.state lookup.old)) (needs_of (column_shapes schema.now)))
+        (λ found. canonical_front (known_of found) (column_shapes schema.now)) fault
         (Wrote (K.state sink.old) (K.state sink.new))) }
     ensures truncated { result ≡ Err CopyFault.Truncated → IsAtEnd (left (S.state source.new)) }
     ensures read_fault { result ≡ Err CopyFault.ReadFault → HasFailed (S.state source.old) (S.state source.new) }

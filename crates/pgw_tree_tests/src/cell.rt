@@ -3,10 +3,10 @@ ghost use Rattle.pgw_meta.specs.Types.{shape};
 ghost use Rattle.pgw_cell.specs.Built.{IsBuilt};
 
 use pgw_cell::{
-    ByteList, CellFault, Datum, DigitList, MeasureFault, PlainCell, WriteCellFault, laws,
-    measure_cell, read_cell, rewrite_cell, write_cell,
+    ByteList, CellFault, Datum, DatumList, DigitList, MeasureFault, PlainCell, WriteCellFault,
+    laws, measure_cell, read_cell, rewrite_cell, write_cell,
 };
-use pgw_meta::{FoundOids, NameText, PgType, TypeKey};
+use pgw_meta::{Found, FoundOids, NameText, PgType, TypeKey};
 use pgw_wire::{Break, ByteBuffer, NoMemory, RawCell};
 use std::alloc::Global;
 use std::test::Fail;
@@ -17,6 +17,22 @@ fn citext(alloc: Global) -> Result<PgType, NoMemory>
 {
     let key = TypeKey::new(alloc, None, "citext")?;
     Ok(PgType::Named(key, Box::new(alloc, PgType::Text)?))
+}
+
+/// The type or null.
+fn or_null(alloc: Global, t: PgType) -> Result<PgType, NoMemory>
+    requires { IsBuilt (shape t) }
+    ensures { IfOk result (λ t. IsBuilt (shape t)) }
+{
+    Ok(PgType::Nullable(Box::new(alloc, t)?))
+}
+
+/// The type of its arrays.
+fn array(alloc: Global, t: PgType) -> Result<PgType, NoMemory>
+    requires { IsBuilt (shape t) }
+    ensures { IfOk result (λ t. IsBuilt (shape t)) }
+{
+    Ok(PgType::Array(Box::new(alloc, t)?))
 }
 
 /// What is measured of a piece, at a limit of 16 bytes.
@@ -145,12 +161,12 @@ impl Both {
     fn cell(&mut self, t: &PgType, cell: RawCell<'_>) -> Result<(), Fail>
         requires { IsBuilt (shape t.now) }
     {
-        let len = measure_cell(t, cell, 16)?;
+        let len = measure_cell(t, cell, 64)?;
         self.rewritten.reserve(len)?;
         rewrite_cell(t, cell, &self.found, &mut self.rewritten);
         let value = read_cell(self.written.alloc(), t, cell)?;
         laws::spelled_has_type(t, cell);
-        write_cell(t, &value, &self.found, 16, &mut self.written)?;
+        write_cell(t, &value, &self.found, 64, &mut self.written)?;
         Ok(())
     }
 
@@ -211,17 +227,114 @@ fn cells_are_written_in_their_canonical_form(rt: HostRuntime) -> Result<(), Fail
     Ok(())
 }
 
+// As `array_send` writes them: the dimensions, flags, the oid of the elements' type, the count, the index of the first
+// element, and each element with its length. 42 and a null, no text, true, and a text of the type with the oid 7.
+const ARRAYS: &[u8] = b"\0\0\0\x20\0\0\0\x01\0\0\0\x01\0\0\0\x17\0\0\0\x02\0\0\0\x01\
+    \0\0\0\x04\0\0\0\x2a\xff\xff\xff\xff\
+    \0\0\0\x14\0\0\0\x01\0\0\0\0\0\0\0\x19\0\0\0\0\0\0\0\x01\
+    \0\0\0\x19\0\0\0\x01\0\0\0\0\0\0\0\x10\0\0\0\x01\0\0\0\x01\0\0\0\x01\x01\
+    \0\0\0\x19\0\0\0\x01\0\0\0\0\0\0\0\x07\0\0\0\x01\0\0\0\x01\0\0\0\x01z";
+
+#[test]
+fn arrays_are_written_in_their_canonical_form(rt: HostRuntime) -> Result<(), Fail> {
+    let alloc = rt.alloc();
+    let mut found = FoundOids::new(alloc);
+    found.push(Found {
+        key: TypeKey::new(alloc, None, "citext")?,
+        oid: 7,
+        array_oid: 8,
+    })?;
+    let mut both = Both {
+        found,
+        rewritten: ByteBuffer::new(alloc),
+        written: ByteBuffer::new(alloc),
+    };
+    let numbers = array(alloc, or_null(alloc, PgType::Int4)?)?;
+    let with_null = b"\0\0\0\x01\0\0\0\x07\0\0\0\x63\0\0\0\x02\0\0\0\0\
+        \0\0\0\x04\0\0\0\x2a\xff\xff\xff\xff\x09";
+    both.piece(&numbers, with_null)?;
+    let texts = or_null(alloc, array(alloc, PgType::Text)?)?;
+    both.piece(&texts, b"\0\0\0\0\0\0\0\0\0\0\0\x19")?;
+    let truths = array(alloc, PgType::Bool)?;
+    let two = b"\0\0\0\x01\0\0\0\0\0\0\0\x10\0\0\0\x01\0\0\0\x01\0\0\0\x02\x02\xaa";
+    both.piece(&truths, two)?;
+    let named = array(alloc, citext(alloc)?)?;
+    let letter = b"\0\0\0\x01\0\0\0\0\0\0\0\x19\0\0\0\x01\0\0\0\x01\0\0\0\x01z";
+    both.piece(&named, letter)?;
+    let bytes = (both.rewritten.as_bytes(), both.written.as_bytes());
+    assert!(rt; bytes == (ARRAYS, ARRAYS));
+    Ok(())
+}
+
+#[test]
+fn arrays_break_at_their_first_fault(rt: HostRuntime) -> Result<(), Fail> {
+    let alloc = rt.alloc();
+    let some = array(alloc, PgType::Int4)?;
+    let nulls = array(alloc, or_null(alloc, PgType::Int4)?)?;
+    let texts = array(alloc, PgType::Text)?;
+    let many = b"\0\0\0\x01\0\0\0\0\0\0\0\x17\x7f\xff\xff\xff\0\0\0\x01\0\0\0\0";
+    let two = b"\0\0\0\x02\0\0\0\0\0\0\0\x17\0\0\0\x01\0\0\0\x01";
+    let below = b"\0\0\0\x01\0\0\0\0\0\0\0\x17\xff\xff\xff\xfd\0\0\0\x01";
+    let null = b"\0\0\0\x01\0\0\0\x01\0\0\0\x17\0\0\0\x01\0\0\0\x01\xff\xff\xff\xff";
+    let unsaid = b"\0\0\0\x01\0\0\0\0\0\0\0\x17\0\0\0\x01\0\0\0\x01\xff\xff\xff\xff";
+    let other = b"\0\0\0\x01\0\0\0\x01\0\0\0\x17\0\0\0\x01\0\0\0\x01\xff\xff\xff\xfe";
+    let text = b"\0\0\0\x01\0\0\0\0\0\0\0\x19\0\0\0\x02\0\0\0\x01\0\0\0\x02\xc3\x28\0";
+    let faults = [
+        fault(alloc, &some, RawCell::Piece(many)),
+        fault(alloc, &some, RawCell::Piece(two)),
+        fault(alloc, &some, RawCell::Piece(&two[..19])),
+        fault(alloc, &some, RawCell::Piece(below)),
+        fault(alloc, &some, RawCell::Piece(null)),
+        fault(alloc, &nulls, RawCell::Piece(null)),
+        fault(alloc, &nulls, RawCell::Piece(unsaid)),
+        fault(alloc, &nulls, RawCell::Piece(other)),
+        fault(alloc, &texts, RawCell::Piece(text)),
+        fault(alloc, &texts, RawCell::Null),
+    ];
+    let size = Some(CellFault::Break(Break::Size));
+    let dimensions = Some(CellFault::Break(Break::Dimensions));
+    let null = Some(CellFault::Break(Break::Null));
+    let utf8 = Some(CellFault::Break(Break::Utf8));
+    let expected = [
+        size, dimensions, size, None, null, None, size, size, utf8, null,
+    ];
+    assert!(rt; faults == expected);
+    Ok(())
+}
+
+#[test]
+fn arrays_pass_as_they_stand(rt: HostRuntime) -> Result<(), Fail> {
+    let alloc = rt.alloc();
+    let found = FoundOids::new(alloc);
+    let numbers = PlainCell::of(&array(alloc, or_null(alloc, PgType::Int4)?)?, &found);
+    let texts = PlainCell::of(&array(alloc, PgType::Text)?, &found);
+    let kept = ARRAYS;
+    let bound = b"\0\0\0\x14\0\0\0\x01\0\0\0\0\0\0\0\x19\0\0\0\0\0\0\0\0";
+    let longer = b"\0\0\0\x15\0\0\0\x01\0\0\0\0\0\0\0\x19\0\0\0\0\0\0\0\x01\0";
+    let passes = [
+        numbers.behind_field(32, kept).is_some(),
+        numbers.behind_field(31, kept).is_some(),
+        texts.behind_field(32, kept).is_some(),
+        texts.behind_field(32, &kept[36..]).is_some(),
+        texts.behind_field(32, bound).is_some(),
+        texts.behind_field(32, longer).is_some(),
+    ];
+    assert!(rt; passes == [true, false, false, true, false, false]);
+    Ok(())
+}
+
 /// How many bytes stand behind the field at the front that is canonical as it stands, of at most 4 bytes.
-fn behind(t: &PgType, bytes: &[u8]) -> Option<usize> {
-    Some(PlainCell::of(t).behind_field(4, bytes)?.len())
+fn behind(found: &FoundOids, t: &PgType, bytes: &[u8]) -> Option<usize> {
+    Some(PlainCell::of(t, found).behind_field(4, bytes)?.len())
 }
 
 #[test]
 fn pieces_of_several_parts_pass_as_they_stand(rt: HostRuntime) {
-    let cidr = PlainCell::of(&PgType::Cidr);
-    let inet = PlainCell::of(&PgType::Inet);
-    let interval = PlainCell::of(&PgType::Interval);
-    let numeric = PlainCell::of(&PgType::Numeric);
+    let found = FoundOids::new(rt.alloc());
+    let cidr = PlainCell::of(&PgType::Cidr, &found);
+    let inet = PlainCell::of(&PgType::Inet, &found);
+    let interval = PlainCell::of(&PgType::Interval, &found);
+    let numeric = PlainCell::of(&PgType::Numeric, &found);
     let host = b"\0\0\0\x08\x02\x18\0\x04\xc0\xa8\0\x01";
     let seven = b"\0\0\0\x0a\0\x01\0\0\x40\0\0\0\0\x07";
     let longer = b"\0\0\0\x0b\0\x01\0\0\x40\0\0\0\0\x07\xaa";
@@ -243,19 +356,20 @@ fn pieces_of_several_parts_pass_as_they_stand(rt: HostRuntime) {
 
 #[test]
 fn fields_pass_as_they_stand(rt: HostRuntime) -> Result<(), Fail> {
+    let found = FoundOids::new(rt.alloc());
     let text = PgType::Nullable(Box::new(rt.alloc(), PgType::Text)?);
     let behind = [
-        behind(&PgType::Bool, b"\0\0\0\x01\x01\x07"),
-        behind(&PgType::Bool, b"\0\0\0\x01\x02\x07"),
-        behind(&PgType::Int4, b"\0\0\0\x04\0\0\0\x2a\x07\x07"),
-        behind(&PgType::Int4, b"\xff\xff\xff\xff\x07"),
-        behind(&PgType::Int8, b"\0\0\0\x08\0\0\0\0\0\0\0\x2a"),
-        behind(&PgType::Bytea, b"\0\0\0\x01\xff"),
-        behind(&text, b"\0\0\0\x02\xc3\xa9\x07"),
-        behind(&text, b"\0\0\0\x02\xc3\x28\x07"),
-        behind(&text, b"\xff\xff\xff\xff\x07\x07\x07"),
-        behind(&PgType::Inet, b"\0\0\0\x01\xff"),
-        behind(&citext(rt.alloc())?, b"\0\0\0\x01z\x07"),
+        behind(&found, &PgType::Bool, b"\0\0\0\x01\x01\x07"),
+        behind(&found, &PgType::Bool, b"\0\0\0\x01\x02\x07"),
+        behind(&found, &PgType::Int4, b"\0\0\0\x04\0\0\0\x2a\x07\x07"),
+        behind(&found, &PgType::Int4, b"\xff\xff\xff\xff\x07"),
+        behind(&found, &PgType::Int8, b"\0\0\0\x08\0\0\0\0\0\0\0\x2a"),
+        behind(&found, &PgType::Bytea, b"\0\0\0\x01\xff"),
+        behind(&found, &text, b"\0\0\0\x02\xc3\xa9\x07"),
+        behind(&found, &text, b"\0\0\0\x02\xc3\x28\x07"),
+        behind(&found, &text, b"\xff\xff\xff\xff\x07\x07\x07"),
+        behind(&found, &PgType::Inet, b"\0\0\0\x01\xff"),
+        behind(&found, &citext(rt.alloc())?, b"\0\0\0\x01z\x07"),
     ];
     let expected = [
         Some(1),
@@ -271,7 +385,7 @@ fn fields_pass_as_they_stand(rt: HostRuntime) -> Result<(), Fail> {
         Some(1),
     ];
     assert!(rt; behind == expected);
-    assert!(rt; PlainCell::of(&PgType::Int4) == PlainCell::four_bytes());
+    assert!(rt; PlainCell::of(&PgType::Int4, &found) == PlainCell::four_bytes());
     Ok(())
 }
 
@@ -287,6 +401,11 @@ fn values_own_their_bytes(rt: HostRuntime) -> Result<(), Fail> {
     let first = (digits.len(), digits.get(0), digits.get(1));
     assert!(rt; first == (1, Some(&7), None));
     assert!(rt; digits.as_slice() == [7].as_slice());
+    let mut data = DatumList::new(alloc);
+    data.push(Datum::Null)?;
+    let firsts = (data.len(), data.get(0).is_some(), data.get(1).is_some());
+    assert!(rt; firsts == (1, true, false));
+    assert!(rt; data.as_slice().len() == 1);
     let text = Datum::Text(NameText::from_str(alloc, "abc")?);
     let found = FoundOids::new(alloc);
     let mut out = ByteBuffer::new(alloc);

@@ -4,7 +4,9 @@ ghost use Rattle.pgw_meta.specs.Types.{shape, types_of, column_shapes};
 ghost use Rattle.pgw_cell.specs.Built.{IsBuilt};
 ghost use Rattle.pgw_tree.specs.ColumnTypes.{AreBuilt};
 
-use pgw_meta::{CachedLookup, Dummy, MemoryCatalog, PgType, Schema, TypeKey, TypeList};
+use pgw_meta::{
+    CachedLookup, Dummy, MemoryCatalog, PgMetadataLookup, PgType, Schema, TypeKey, TypeList,
+};
 use pgw_tree::{CopyFault, Limits, recopy};
 use pgw_wire::{Break, Failed, MemorySink, MemorySource, NoMemory, QuietSource, Sink, Source};
 use std::alloc::Global;
@@ -83,14 +85,30 @@ fn one_column(alloc: Global) -> Result<Schema, Fail>
 }
 
 /// A `citext`, which is named over a text.
+fn citext(alloc: Global) -> Result<PgType, NoMemory>
+    ensures { IfOk result (λ t. IsBuilt (shape t)) }
+{
+    let key = TypeKey::new(alloc, None, "citext")?;
+    Ok(PgType::Named(key, Box::new(alloc, PgType::Text)?))
+}
+
+/// A `citext`.
 fn named_column(alloc: Global) -> Result<Schema, Fail>
     ensures { IfOk result (λ schema. AreBuilt (column_shapes schema)) }
 {
-    let key = TypeKey::new(alloc, None, "citext")?;
+    let mut columns = TypeList::new(alloc);
+    add(&mut columns, citext(alloc)?)?;
+    schema_of(alloc, columns)
+}
+
+/// An array of `citext`.
+fn array_column(alloc: Global) -> Result<Schema, Fail>
+    ensures { IfOk result (λ schema. AreBuilt (column_shapes schema)) }
+{
     let mut columns = TypeList::new(alloc);
     add(
         &mut columns,
-        PgType::Named(key, Box::new(alloc, PgType::Text)?),
+        PgType::Array(Box::new(alloc, citext(alloc)?)?),
     )?;
     schema_of(alloc, columns)
 }
@@ -128,6 +146,44 @@ fn stream_is_copied(rt: HostRuntime) -> Result<(), Fail> {
 const LETTER: &[u8] = b"PGCOPY\n\xff\r\n\0\0\0\0\0\0\0\0\0\0\x01\0\0\0\x02\xc3\xa9\xff\xff";
 
 const NO_TEXT: &[u8] = b"PGCOPY\n\xff\r\n\0\0\0\0\0\0\0\0\0\0\x01\0\0\0\x02\xc3\x28\xff\xff";
+
+/// One row of an array with the one element `x`, of which the oid is 25, that of `text`.
+const ARRAY: &[u8] = b"PGCOPY\n\xff\r\n\0\0\0\0\0\0\0\0\0\0\x01\
+    \0\0\0\x19\0\0\0\x01\0\0\0\0\0\0\0\x19\0\0\0\x01\0\0\0\x01\0\0\0\x01x\xff\xff";
+
+/// The same with the oid 16400.
+const FOUND: &[u8] = b"PGCOPY\n\xff\r\n\0\0\0\0\0\0\0\0\0\0\x01\
+    \0\0\0\x19\0\0\0\x01\0\0\0\0\0\0\x40\x10\0\0\0\x01\0\0\0\x01\0\0\0\x01x\xff\xff";
+
+/// Copies that row, and answers the fault.
+fn fault_of_array<L: PgMetadataLookup>(
+    alloc: Global,
+    lookup: &mut L,
+    sink: &mut MemorySink,
+) -> Result<Option<CopyFault>, Fail> {
+    let schema = array_column(alloc)?;
+    let mut source = QuietSource::new(ARRAY.to_vec(alloc)?);
+    Ok(recopy(alloc, &schema, lookup, &mut source, sink, limits_of(1, 64)?).err())
+}
+
+// Elements of a named type have an oid that is looked up before anything is read.
+#[test]
+fn an_array_of_a_named_type_needs_its_oid(rt: HostRuntime) -> Result<(), Fail> {
+    let alloc: Global = rt.alloc();
+    let mut sink = MemorySink::new(alloc, Vec::new(alloc), Vec::new(alloc));
+    let unknown = fault_of_array(alloc, &mut Dummy, &mut sink)?;
+    assert!(rt; matches!(unknown, Some(CopyFault::UnknownType(_))));
+    let mut catalog = MemoryCatalog::new(alloc, [0].to_vec(alloc)?);
+    catalog.push_path("public")?;
+    catalog.add("public", "citext", 16400, 16405)?;
+    let mut lookup = CachedLookup::new(alloc, catalog);
+    let failed = fault_of_array(alloc, &mut lookup, &mut sink)?;
+    assert!(rt; matches!(failed, Some(CopyFault::LookupFault)));
+    assert!(rt; sink.gained().is_empty());
+    let fault = fault_of_array(alloc, &mut lookup, &mut sink)?;
+    assert!(rt; (fault.is_none(), sink.gained()) == (true, FOUND));
+    Ok(())
+}
 
 #[test]
 fn column_of_a_named_type_is_copied(rt: HostRuntime) -> Result<(), Fail> {

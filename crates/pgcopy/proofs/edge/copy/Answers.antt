@@ -6,15 +6,13 @@ use Rattle.pgw_wire.proofs.Taking.{took_from, ended}
 use Rattle.pgw_tree.specs.declared.fault.CopyFault.{CopyFault}
 use Rattle.pgw_tree.specs.declared.fault.CopyFault.TheVariants.{ReadFault, WriteFault, NoMemory}
 use Rattle.pgw_tree.specs.Stream.{IsValidStream}
-use Rattle.pgw_tree.specs.Canonical.{canonical_front}
 use Rattle.pgw_tree.proofs.Excluded.{excluded}
 use Rattle.pgcopy.specs.declared.report.Status.{Status}
 use Rattle.pgcopy.specs.declared.report.Status.TheVariants.{Copied as status_copied, Words as status_words, Refused as status_refused, Outside as status_outside, UnknownType as status_unknown_type, NoMemory as status_no_memory}
 use Rattle.pgcopy.specs.Report.{fault_status}
-use Rattle.pgcopy.specs.Words.{texts, PlanData, missing}
+use Rattle.pgcopy.specs.Words.{texts, PlanData, missing, canonical_rows}
 use Rattle.pgcopy.specs.Runs.{MetFault}
-use Rattle.pgw_tree.proofs.LookedUp.{says_of_stream}
-use Rattle.pgcopy.proofs.Looked.{no_lookup}
+use Rattle.pgcopy.proofs.Looked.{no_lookup, says_of_stream}
 use Rattle.pgcopy.proofs.Plans.{plan_once}
 use Rattle.std.specs.Io.Buffered.{writer_inner, writer_buffer}
 use Rattle.pgcopy.proofs.Reached.{arrives, got_none, appends_none, told_of, line_got, copied_out, stopped_out}
@@ -57,7 +55,7 @@ at_fault : {S K : Type 0} (status : Status) (a b : SourceState S) (before now : 
 at_fault status a b before now plan fault front rest none is met begins valid =
     let t = took_from a b _ met.says (front ++ rest) begins in
     subst (λ (s : Status). (s ≡ status_outside) ⊎ (s ≡ status_no_memory)) (sym is)
-    (outside_status fault (excluded plan.limits plan.columns (canonical_front plan.columns) fault (Wrote before now) t.taken t.rest front rest (says_of_stream (no_lookup plan fault met none) t.has) (λ e. ended (left b) t.rest (met.at_end e) t.now_is) valid (sym t.left_is)))
+    (outside_status fault (excluded plan.limits plan.columns (canonical_rows plan) fault (Wrote before now) t.taken t.rest front rest (says_of_stream plan fault (no_lookup plan fault met none) t.has) (λ e. ended (left b) t.rest (met.at_end e) t.now_is) valid (sym t.left_is)))
 
 pub returns-clause-complete : goal.returns-clause-complete
 returns-clause-complete g c = λ plan is none valid.

@@ -1,17 +1,15 @@
-use Rattle.std.proofs.Common.{arith, sym, ap, ◌∙◌, option_map}
-use Rattle.pgw_meta.specs.Types.{shape}
-use Rattle.pgcopy.specs.Words.{look_up, type_names}
-use Rattle.pgcopy.proofs.TypeNames.{strips_end, type_is, type_marked, nothing_marked}
+use Rattle.std.proofs.Common.{sym, ap, ◌∙◌, option_map}
+use Rattle.pgcopy.specs.Words.{array_or_scalar}
+use Rattle.pgcopy.specs.WordsRead.{part_shape}
+use Rattle.pgcopy.proofs.TypeNames.{marked_is, nothing_is}
 use Rattle.pgcopy.proofs.words.type_of.Goals as goal
 
-pub returns-in_err-named : goal.returns-in_err-named
-returns-in_err-named c =
-    let marked = strips_end 63 c.args.word.now c.strip_suffix-marked.result c.strip_suffix-marked.ensures.cases (omega arith) in
-    let none = ap (λ x. look_up x.now type_names) (sym c.unwrap_or.ensures) ∙ sym c.named_type.ensures ∙ ap (option_map shape) c.in_err-named.was in
-    rw c.from_residual.ensures (nothing_marked c.strip_suffix-marked.result _ none ∙ sym (type_is c.args.word c.strip_suffix-marked.result marked))
+pub returns-in_err-part : goal.returns-in_err-part
+returns-in_err-part c =
+    let none = sym (ap (λ x. array_or_scalar x.now) (sym c.unwrap_or.ensures) ∙ sym c.array_or_scalar.ensures.part ∙ ap (option_map part_shape) c.in_err-part.was) in
+    rw c.from_residual.ensures (nothing_is array_or_scalar c.args.word c.in_front-marked.result c.in_front-marked.ensures none)
 
 pub returns : goal.returns
 returns c =
-    let marked = strips_end 63 c.args.word.now c.strip_suffix-marked.result c.strip_suffix-marked.ensures.cases (omega arith) in
-    let named = ap (λ x. look_up x.now type_names) (sym c.unwrap_or.ensures) ∙ sym c.named_type.ensures ∙ ap (option_map shape) c.in_ok-named.was in
-    rw c.is_some.ensures (type_marked shape c.strip_suffix-marked.result c.in_ok-named.named _ named ∙ sym (type_is c.args.word c.strip_suffix-marked.result marked))
+    let named = sym (ap (λ x. array_or_scalar x.now) (sym c.unwrap_or.ensures) ∙ sym c.array_or_scalar.ensures.part ∙ ap (option_map part_shape) c.in_ok-part.was) in
+    rw c.is_some.ensures (marked_is array_or_scalar part_shape c.args.word c.in_front-marked.result c.in_ok-part.part c.in_front-marked.ensures named)

@@ -14,7 +14,7 @@ pub returns-clause-long : goal.returns-clause-long
 returns-clause-long c = (measured_says c.args.field_max (shape c.args.t.now) (cell_of c.args.cell) c.measure.result c.requires.built c.measure.ensures.bytes c.measure.ensures.value).long
 
 pub returns-clause-spells : goal.returns-clause-spells
-returns-clause-spells c = λ v s fits. c.measure.ensures.value ∙ measured_fits c.args.field_max (shape c.args.t.now) (cell_of c.args.cell) v s fits
+returns-clause-spells c = λ known v s fits. c.measure.ensures.value ∙ measured_fits known c.args.field_max (shape c.args.t.now) (cell_of c.args.cell) v s fits
 
 pub returns-clause-breaks : goal.returns-clause-breaks
 returns-clause-breaks c = λ kind b. c.measure.ensures.value ∙ measured_breaks c.args.field_max (shape c.args.t.now) (cell_of c.args.cell) kind b

@@ -1,5 +1,6 @@
 use Rattle.std.proofs.Common.{◌∷◌, ◌++◌, [], take, sym, ap, ◌∙◌, arith}
 use Rattle.std.proofs.lemmas.List.{length-map, map-append, take_all}
+use Rattle.pgw_meta.specs.NamedOids.{known_of}
 use Rattle.pgw_meta.specs.Types.{shape, column_shapes}
 use Rattle.pgw_cell.specs.Plain.{plain_cell}
 use Rattle.pgw_tree.specs.ColumnTypes.{plain_cells}
@@ -12,10 +13,10 @@ loop-place-preserved c =
     let i = c.loop-place._place in
     let t = shape c.index-types-place.result in
     let at = type_at c.args.types.now i c.index-types-place.result c.loop-place-test.true c.index-types-place.is in
-    c.in_ok-push.ensures.items ∙ ap (λ l. l ++ (c.of.result ∷ [])) c.loop-place.invariant ∙ ap (λ cell. plain_cells (take i ts) ++ (cell ∷ [])) c.of.ensures
-    ∙ sym (map-append plain_cell (take i ts) (t ∷ [])) ∙ ap plain_cells (sym at.first)
+    c.in_ok-push.ensures.items ∙ ap (λ l. l ++ (c.of.result ∷ [])) c.loop-place.invariant ∙ ap (λ cell. plain_cells (known_of c.args.found.now) (take i ts) ++ (cell ∷ [])) c.of.ensures
+    ∙ sym (map-append (plain_cell (known_of c.args.found.now)) (take i ts) (t ∷ [])) ∙ ap (plain_cells (known_of c.args.found.now)) (sym at.first)
 
 pub returns : goal.returns
 returns c =
     let types = c.args.types.now in
-    c.loop-place.invariant ∙ ap plain_cells (take_all c.loop-place._place (column_shapes types) (omega (arith, c.loop-place-test.false, length-map types shape)))
+    c.loop-place.invariant ∙ ap (plain_cells (known_of c.args.found.now)) (take_all c.loop-place._place (column_shapes types) (omega (arith, c.loop-place-test.false, length-map types shape)))

@@ -13,6 +13,7 @@ use Rattle.pgw_meta.specs.Types.{column_shapes}
 use Rattle.pgw_tree.specs.Causes.{row_limit}
 use Rattle.pgw_tree.proofs.Parts.{reader_first, reader_later, count_cause, fields_cause, row_taken, is_inside, sent_cause, sent_failed, some_count, no_count}
 use Rattle.pgw_tree.proofs.Runs.{run_one}
+use Rattle.pgw_meta.specs.NamedOids.{known_of}
 use Rattle.pgw_tree.proofs.next_row.copy_row.Goals as goal
 
 pub returns-in_err-next_count-clause-takes : goal.returns-in_err-next_count-clause-takes
@@ -56,7 +57,7 @@ returns-in-Ok-clause-takes g c =
     let row = row_taken c.args.limits c.args.rows some.0 (cells_of c.in_ok-row.row) _ allowed (c.in_ok-row.ensures.many some.0 pends) counted ((c.in_ok-row.ensures.takes some.0 pends).ok _ refl) in
     let sent = rw c.field_max.ensures.value at c.in-Ok.ensures.ok in
     takes_done true _ _ (took_weaker row (λ bytes at.
-    run_one c.args.limits (column_shapes c.args.columns.now.types.now) c.args.rows _ bytes sent.0 allowed (record { cells = _; is = at.is; spelled = sent.1.spelled; fit = sent.1.fit }) sent.2))
+    run_one (known_of c.args.columns.now.found.now) c.args.limits (column_shapes c.args.columns.now.types.now) c.args.rows _ bytes sent.0 allowed (record { cells = _; is = at.is; spelled = sent.1.spelled; fit = sent.1.fit }) sent.2))
 
 pub returns-in-Err-clause-takes : goal.returns-in-Err-clause-takes
 returns-in-Err-clause-takes g c =
@@ -68,7 +69,7 @@ returns-in-Err-clause-takes g c =
     let says = rw c.field_max.ensures.value at c.in-Err.ensures.err in
     let still : c.in-Err.fault ≢ WriteFault → Wrote (g.K.Sink.state c.args.sink.now) (g.K.Sink.state c.send_values.new.sink) [] = λ other. wrote_still g.K.Sink.state c.args.sink.now c.send_values.new.sink (c.in-Err.ensures.unwritten other) in
     let inside = is_inside c.args.rows c.in-Err.fault in
-    takes_refused _ _ (ap Err c.in_row.ensures) (took_weaker row (λ bytes at. sent_cause c.args.limits (column_shapes c.args.columns.now.types.now) c.args.rows _ bytes c.in-Err.fault at says still))
+    takes_refused _ _ (ap Err c.in_row.ensures) (took_weaker row (λ bytes at. sent_cause (known_of c.args.columns.now.found.now) c.args.limits (column_shapes c.args.columns.now.types.now) c.args.rows _ bytes c.in-Err.fault at says still))
     (λ h. absurd (inside.0 h)) (λ h. absurd (inside.1 h))
 
 pub returns-in-Err-clause-write_fault : goal.returns-in-Err-clause-write_fault

@@ -7,6 +7,7 @@ use Rattle.pgw_meta.specs.Types.{column_shapes}
 use Rattle.pgw_tree.specs.Sending.{has_broken}
 use Rattle.pgw_tree.proofs.PlainRows.{plain_told}
 use Rattle.pgw_tree.proofs.Parts.{filled_cause}
+use Rattle.pgw_meta.specs.NamedOids.{known_of}
 use Rattle.pgw_tree.proofs.next_row.send_values.Goals as goal
 
 pub returns-then-send-bytes-clause-err : goal.returns-then-send-bytes-clause-err
@@ -14,7 +15,7 @@ returns-then-send-bytes-clause-err g c =
     let bytes = c.as_bytes-bytes.result.now in
     let run = c.plain_rows-run.ensures in
     let sent = c.send.result in
-    let told = plain_told c.args.field_max (column_shapes c.args.columns.now.types.now) (cells_of c.args.row.now) _ bytes _ run.rows c.requires.row c.as_bytes-bytes.ensures run.front c.if-run-bytes.true (run.as_many ∙ c.if-run-eq1.true) run.plain in
+    let told = plain_told (known_of c.args.columns.now.found.now) c.args.field_max (column_shapes c.args.columns.now.types.now) (cells_of c.args.row.now) _ bytes _ run.rows c.requires.row c.as_bytes-bytes.ensures run.front c.if-run-bytes.true (run.as_many ∙ c.if-run-eq1.true) run.plain in
     has_broken refl (
       told.0,
       told.1,
@@ -26,7 +27,7 @@ pub returns-then-run-bytes-clause-ok : goal.returns-then-run-bytes-clause-ok
 returns-then-run-bytes-clause-ok g c =
     let bytes = c.as_bytes-bytes.result.now in
     let run = c.plain_rows-run.ensures in
-    let told = plain_told c.args.field_max (column_shapes c.args.columns.now.types.now) (cells_of c.args.row.now) _ bytes _ run.rows c.requires.row c.as_bytes-bytes.ensures run.front c.if-run-bytes.true (run.as_many ∙ c.if-run-eq1.true) run.plain in
+    let told = plain_told (known_of c.args.columns.now.found.now) c.args.field_max (column_shapes c.args.columns.now.types.now) (cells_of c.args.row.now) _ bytes _ run.rows c.requires.row c.as_bytes-bytes.ensures run.front c.if-run-bytes.true (run.as_many ∙ c.if-run-eq1.true) run.plain in
     let all : take c.send.result bytes ≡ bytes = take_all c.send.result bytes (omega (arith, c.if-send-bytes.false)) in
     (told.0, told.1, subst (Wrote (g.K.Sink.state c.args.sink.now) (g.K.Sink.state c.send.new.sink)) (all ∙ told.2) c.send.ensures.wrote)
 

@@ -6,6 +6,7 @@ use Rattle.pgw_cell.specs.Plain.{plain_cell}
 use Rattle.pgw_tree.specs.Plain.{IsPlainFields}
 use Rattle.pgw_tree.proofs.Prefixes.{plain_at}
 use Rattle.pgw_tree.proofs.PlainRows.{plain_more}
+use Rattle.pgw_meta.specs.NamedOids.{known_of}
 use Rattle.pgw_tree.proofs.plain.behind_plain_fields.Goals as goal
 
 pub loop-place-preserved : goal.loop-place-preserved
@@ -14,14 +15,14 @@ loop-place-preserved c =
     let i = c.loop-place._place in
     let inv = c.loop-place.invariant in
     let t = get_or ts i (scalar int4) in
-    let within : i < length ts = omega (arith, c.loop-place-test.true, ap length c.args.columns.now.each ∙ length-map ts plain_cell) in
-    let f = c.in_ok-rest.ensures t (plain_at c.args.columns.now.plain.now ts i _ (scalar int4) c.args.columns.now.each within) in
+    let within : i < length ts = omega (arith, c.loop-place-test.true, ap length c.args.columns.now.each ∙ length-map ts (plain_cell (known_of c.args.columns.now.found.now))) in
+    let f = c.in_ok-rest.ensures (known_of c.args.columns.now.found.now) t (plain_at (known_of c.args.columns.now.found.now) c.args.columns.now.plain.now ts i _ (scalar int4) c.args.columns.now.each within) in
     let rest = c.in_ok-rest.rest.now in
     record {
       values = inv.values ++ (f.1.value ∷ []);
       fields = inv.fields ++ f.0;
-      plain = subst (λ (us : List Shape). IsPlainFields c.args.field_max us (inv.values ++ (f.1.value ∷ [])) (inv.fields ++ f.0)) (sym (take_more ts i (scalar int4) within))
-          (plain_more c.args.field_max (take i ts) inv.values inv.fields t f.0 (omega (arith, c.requires.max)) inv.plain f.1);
+      plain = subst (λ (us : List Shape). IsPlainFields (known_of c.args.columns.now.found.now) c.args.field_max us (inv.values ++ (f.1.value ∷ [])) (inv.fields ++ f.0)) (sym (take_more ts i (scalar int4) within))
+          (plain_more (known_of c.args.columns.now.found.now) c.args.field_max (take i ts) inv.values inv.fields t f.0 (omega (arith, c.requires.max)) inv.plain f.1);
       is = inv.is ∙ ap (λ r. inv.fields ++ r) f.2 ∙ sym (append_assoc inv.fields f.0 rest);
     }
 
@@ -29,6 +30,6 @@ pub returns : goal.returns
 returns c =
     let ts = column_shapes c.args.columns.now.types.now in
     let inv = c.loop-place.invariant in
-    let known = ap length c.args.columns.now.each ∙ length-map ts plain_cell in
+    let known = ap length c.args.columns.now.each ∙ length-map ts (plain_cell (known_of c.args.columns.now.found.now)) in
     let all : take c.loop-place._place ts ≡ ts = take_all c.loop-place._place ts (omega (arith, c.loop-place-test.false, known)) in
-    record { some = (inv.fields, inv.values, subst (λ (us : List Shape). IsPlainFields c.args.field_max us inv.values inv.fields) all inv.plain, inv.is) }
+    record { some = (inv.fields, inv.values, subst (λ (us : List Shape). IsPlainFields (known_of c.args.columns.now.found.now) c.args.field_max us inv.values inv.fields) all inv.plain, inv.is) }

@@ -2,6 +2,7 @@ use Rattle.std.proofs.Common.{◌≡◌, ◌++◌, List, ℕ, take}
 use Rattle.pgw_meta.specs.Types.{column_shapes}
 use Rattle.pgw_cell.specs.Value.{Value}
 use Rattle.pgw_tree.specs.Plain.{IsPlainFields}
+use Rattle.pgw_meta.specs.NamedOids.{known_of}
 use Rattle.pgw_tree.proofs.plain.behind_plain_fields.Given as goal
 
 -- The fields so far are the canonical ones of these values.
@@ -9,6 +10,6 @@ abbrev pub invariant-loop-place : goal.invariant-loop-place
 invariant-loop-place l = record {
   values : List Value;
   fields : List ℕ;
-  plain : IsPlainFields l.field_max (take l._place (column_shapes l.columns.types.now)) values fields;
+  plain : IsPlainFields (known_of l.columns.found.now) l.field_max (take l._place (column_shapes l.columns.types.now)) values fields;
   is : l.fn.bytes ≡ fields ++ l.rest;
 }

@@ -2,6 +2,7 @@ use Rattle.std.proofs.Common.{◌-◌, ◌≡◌, ◌≤◌, ◌++◌, List, ℕ
 use Rattle.pgw_meta.specs.Types.{column_shapes}
 use Rattle.pgw_cell.specs.Value.{Value}
 use Rattle.pgw_tree.specs.Plain.{ArePlainRows}
+use Rattle.pgw_meta.specs.NamedOids.{known_of}
 use Rattle.pgw_tree.proofs.plain.walk.Given as goal
 
 abbrev pub invariant-loop-rows : goal.invariant-loop-rows
@@ -11,7 +12,7 @@ invariant-loop-rows l = record {
   front : List ℕ;
   values : List (List Value);
   many : length values ≡ l.rows;
-  plain : ArePlainRows l.field_max (column_shapes l.columns.types.now) front values;
+  plain : ArePlainRows (known_of l.columns.found.now) l.field_max (column_shapes l.columns.types.now) front values;
   is : l.fn.bytes ≡ front ++ l.rest;
 }
 

@@ -9,6 +9,7 @@ use Rattle.pgw_tree.specs.Canonical.{canonical_cells}
 use Rattle.pgw_tree.specs.Rewriting.{HasRowFields}
 use Rattle.pgw_tree.proofs.RowFields.{spells-append, fields_both}
 use Rattle.pgw_tree.proofs.PlainRows.{cells_many, front_of}
+use Rattle.pgw_meta.specs.NamedOids.{known_of}
 use Rattle.pgw_tree.proofs.respell.respell_row.Goals as goal
 
 pub push_row-requires-clause-row : goal.push_row-requires-clause-row
@@ -42,18 +43,18 @@ returns-in-Ok-clause-some c =
     let p = c.in-Some.ensures.some in
     let f = c.in_ok-behind.ensures.some in
     let fields = p.0 ++ f.1 in
-    let cells = canonical_cells ts p.1 ++ f.0 in
-    let many : length cells ≡ n = omega (arith, length-append (canonical_cells ts p.1) f.0, cells_many ts p.1 p.2.spelled, f.2, length-map types shape, c.if-count-columns.false) in
+    let cells = canonical_cells (known_of c.args.columns.now.found.now) ts p.1 ++ f.0 in
+    let many : length cells ≡ n = omega (arith, length-append (canonical_cells (known_of c.args.columns.now.found.now) ts p.1) f.0, cells_many (known_of c.args.columns.now.found.now) ts p.1 p.2.spelled, f.2, length-map types shape, c.if-count-columns.false) in
     record {
       row = x ++ fields;
       values = p.1;
       is_row = record {
         cells = cells;
-        is = row_of n cells x fields (omega (arith, c.if-count-ge-NEGATIVE_COUNT.false), refl) many (fields_both (canonical_cells ts p.1) f.0 p.0 f.1 p.2.each f.3);
-        spelled = spells-append ts (canonical_cells ts p.1) f.0 p.1 p.2.spelled;
+        is = row_of n cells x fields (omega (arith, c.if-count-ge-NEGATIVE_COUNT.false), refl) many (fields_both (canonical_cells (known_of c.args.columns.now.found.now) ts p.1) f.0 p.0 f.1 p.2.each f.3);
+        spelled = spells-append ts (canonical_cells (known_of c.args.columns.now.found.now) ts p.1) f.0 p.1 p.2.spelled;
         fit = p.2.fit;
       };
       is = c.in_ok-count.ensures.number ∙ ap (λ l. x ++ l) (p.3 ∙ ap (λ l. p.0 ++ l) f.4 ∙ sym (append_assoc p.0 f.1 c.in_ok-behind.behind.now)) ∙ sym (append_assoc x fields c.in_ok-behind.behind.now);
       appended = c.in-Ok.ensures.ok ∙ ap (λ l. c.args.out.now.bytes ++ (to_be_bytes w16 (length types) ++ l)) (front_of c.in_ok-count.fields.now p.0 c.in-Some.others.now p.3 ∙ p.2.is)
-          ∙ ap (λ k. c.args.out.now.bytes ++ (to_be_bytes w16 k ++ flat_map frame (canonical_cells ts p.1))) (sym (length-map types shape));
+          ∙ ap (λ k. c.args.out.now.bytes ++ (to_be_bytes w16 k ++ flat_map frame (canonical_cells (known_of c.args.columns.now.found.now) ts p.1))) (sym (length-map types shape));
     }

@@ -2,6 +2,7 @@ use Rattle.std.proofs.Common.{◌≡◌, ◌++◌, length, sym, ap, ◌∙◌, a
 use Rattle.std.proofs.lemmas.List.{length-map}
 use Rattle.pgw_meta.specs.Types.{shape, column_shapes}
 use Rattle.pgw_tree.proofs.Respelled.{respelled_row_more}
+use Rattle.pgw_meta.specs.NamedOids.{known_of}
 use Rattle.pgw_tree.proofs.respell.respell_rows.Goals as goal
 
 pub loop-goes_on-preserved : goal.loop-goes_on-preserved
@@ -14,5 +15,5 @@ loop-goes_on-preserved c =
       limit = omega (arith, c.if-rows-most.true);
       front = inv.front ++ r.row;
       is = inv.is ∙ ap (λ l. inv.front ++ l) r.is ∙ sym (append_assoc inv.front r.row c.in-Some.behind.now);
-      respelled = respelled_row_more c.args.field_max ts c.loop-goes_on.rows c.loop-goes_on.out.bytes inv.front r.row c.respell_row.new.out.bytes r.values (omega (arith, c.requires.max)) (omega (arith, columns, c.args.columns.now.few)) inv.respelled r.is_row r.appended;
+      respelled = respelled_row_more (known_of c.args.columns.now.found.now) c.args.field_max ts c.loop-goes_on.rows c.loop-goes_on.out.bytes inv.front r.row c.respell_row.new.out.bytes r.values (omega (arith, c.requires.max)) (omega (arith, columns, c.args.columns.now.few)) inv.respelled r.is_row r.appended;
     }

@@ -5,6 +5,7 @@ use Rattle.pgw_meta.specs.Types.{shape, column_shapes}
 use Rattle.pgw_tree.specs.Columns.{SpellsFit}
 use Rattle.pgw_tree.specs.Rewriting.{canonical_fields}
 use Rattle.pgw_tree.proofs.Rewritten.{fits_weaker}
+use Rattle.pgw_meta.specs.NamedOids.{known_of}
 use Rattle.pgw_tree.proofs.rewrite.push_row.Goals as goal
 
 pub rewrite_row-requires : goal.rewrite_row-requires
@@ -32,4 +33,4 @@ returns-clause-ok c = λ cells row.
     let count = to_be_bytes w16 (length ts) in
     let pushed : c.push_reserved.new.self.bytes ≡ old ++ count =
     c.push_reserved.ensures.bytes ∙ ap (λ l. l ++ c.to_be_bytes.result) c.reserve.ensures.bytes ∙ ap (λ l. old ++ l) (c.to_be_bytes.ensures ∙ ap (to_be_bytes w16) (sym (length-map types shape))) in
-    (m.values, record { spelled = m.first.spelled; fit = m.first.fit }, c.rewrite_row.ensures cells m.values row.starts first (omega (arith, m.counted, c.in_ok-reserve.ensures.ok, c.push_reserved.ensures.spare)) ∙ ap (λ l. l ++ canonical_fields ts m.values) pushed ∙ append_assoc old count (canonical_fields ts m.values))
+    (m.values, record { spelled = m.first.spelled; fit = m.first.fit }, c.rewrite_row.ensures cells m.values row.starts first (omega (arith, m.counted, c.in_ok-reserve.ensures.ok, c.push_reserved.ensures.spare)) ∙ ap (λ l. l ++ canonical_fields (known_of c.args.columns.now.found.now) ts m.values) pushed ∙ append_assoc old count (canonical_fields (known_of c.args.columns.now.found.now) ts m.values))

@@ -6,6 +6,7 @@ use Rattle.pgw_tree.specs.Rewriting.{canonical_fields}
 use Rattle.pgw_tree.proofs.Prefixes.{type_at}
 use Rattle.pgw_tree.proofs.PlainRows.{some_at, some_unless_none}
 use Rattle.pgw_tree.proofs.Rewritten.{LeftToRewrite, not_cut, some_left, rewrites_first, none_left}
+use Rattle.pgw_meta.specs.NamedOids.{known_of}
 use Rattle.pgw_tree.proofs.rewrite.rewrite_row.Goals as goal
 
 pub loop-place-init : goal.loop-place-init
@@ -19,9 +20,9 @@ unwrap-requires c =
     let r = c.requires.row in
     let at = type_at types i c.t-item.result c.loop-place-test.true c.t-item.is in
     let left = c.loop-place.invariant r.0 r.1 r.2 r.3 r.4 in
-    let all = c.args.out.now.bytes ++ canonical_fields ts r.1 in
-    let l = subst (λ (us : List Shape). LeftToRewrite us c.loop-place.rest.now c.loop-place.out.spare c.loop-place.out.bytes all) at.rest left in
-    some_unless_none c.front_cell.result (λ none. not_cut l.cells c.loop-place.rest.now l.starts (some_left _ _ _ _ _ _ l) (c.front_cell.ensures.none none))
+    let all = c.args.out.now.bytes ++ canonical_fields (known_of c.args.columns.now.found.now) ts r.1 in
+    let l = subst (λ (us : List Shape). LeftToRewrite (known_of c.args.columns.now.found.now) us c.loop-place.rest.now c.loop-place.out.spare c.loop-place.out.bytes all) at.rest left in
+    some_unless_none c.front_cell.result (λ none. not_cut l.cells c.loop-place.rest.now l.starts (some_left (known_of c.args.columns.now.found.now) _ _ _ _ _ _ l) (c.front_cell.ensures.none none))
 
 pub rewrite_cell-requires : goal.rewrite_cell-requires
 rewrite_cell-requires c =
@@ -32,9 +33,9 @@ rewrite_cell-requires c =
     let at = type_at types i c.t-item.result c.loop-place-test.true c.t-item.is in
     let f = some_at c.front_cell.result c.unwrap.result _ c.unwrap.ensures c.front_cell.ensures.some in
     let left = c.loop-place.invariant r.0 r.1 r.2 r.3 r.4 in
-    let all = c.args.out.now.bytes ++ canonical_fields ts r.1 in
-    let l = subst (λ (us : List Shape). LeftToRewrite us c.loop-place.rest.now c.loop-place.out.spare c.loop-place.out.bytes all) at.rest left in
-    let one = rewrites_first _ _ _ _ _ _ _ f.0 _ l f.1 f.2 in
+    let all = c.args.out.now.bytes ++ canonical_fields (known_of c.args.columns.now.found.now) ts r.1 in
+    let l = subst (λ (us : List Shape). LeftToRewrite (known_of c.args.columns.now.found.now) us c.loop-place.rest.now c.loop-place.out.spare c.loop-place.out.bytes all) at.rest left in
+    let one = rewrites_first (known_of c.args.columns.now.found.now) _ _ _ _ _ _ _ f.0 _ l f.1 f.2 in
     (one.value, one.spells, one.fits, one.room)
 
 pub loop-place-preserved : goal.loop-place-preserved
@@ -44,9 +45,9 @@ loop-place-preserved c = λ cells values starts first room.
     let i = c.loop-place._place in
     let at = type_at types i c.t-item.result c.loop-place-test.true c.t-item.is in
     let f = some_at c.front_cell.result c.unwrap.result _ c.unwrap.ensures c.front_cell.ensures.some in
-    let all = c.args.out.now.bytes ++ canonical_fields ts values in
-    let l = subst (λ (us : List Shape). LeftToRewrite us c.loop-place.rest.now c.loop-place.out.spare c.loop-place.out.bytes all) at.rest (c.loop-place.invariant cells values starts first room) in
-    let one = rewrites_first _ _ _ _ _ _ _ f.0 _ l f.1 f.2 in
+    let all = c.args.out.now.bytes ++ canonical_fields (known_of c.args.columns.now.found.now) ts values in
+    let l = subst (λ (us : List Shape). LeftToRewrite (known_of c.args.columns.now.found.now) us c.loop-place.rest.now c.loop-place.out.spare c.loop-place.out.bytes all) at.rest (c.loop-place.invariant cells values starts first room) in
+    let one = rewrites_first (known_of c.args.columns.now.found.now) _ _ _ _ _ _ _ f.0 _ l f.1 f.2 in
     one.after _ _ (c.rewrite_cell.ensures.bytes one.value one.spells) (c.rewrite_cell.ensures.spare one.value one.spells)
 
 pub returns : goal.returns
@@ -55,4 +56,4 @@ returns c = λ cells values starts first room.
     let ts = column_shapes types in
     let i = c.loop-place._place in
     let none : drop i ts ≡ [] = drop_all i ts (omega (arith, c.loop-place-test.false, length-map types shape)) in
-    none_left _ _ _ _ (subst (λ (us : List Shape). LeftToRewrite us c.loop-place.rest.now c.loop-place.out.spare c.loop-place.out.bytes (c.args.out.now.bytes ++ canonical_fields ts values)) none (c.loop-place.invariant cells values starts first room))
+    none_left (known_of c.args.columns.now.found.now) _ _ _ _ (subst (λ (us : List Shape). LeftToRewrite (known_of c.args.columns.now.found.now) us c.loop-place.rest.now c.loop-place.out.spare c.loop-place.out.bytes (c.args.out.now.bytes ++ canonical_fields (known_of c.args.columns.now.found.now) ts values)) none (c.loop-place.invariant cells values starts first room))

@@ -5,6 +5,7 @@ use Rattle.pgw_cell.specs.Value.{Value}
 use Rattle.pgw_tree.specs.Columns.{SpellsFit}
 use Rattle.pgw_tree.specs.Rewriting.{StartsWithFields, canonical_fields}
 use Rattle.pgw_tree.proofs.Rewritten.{LeftToRewrite}
+use Rattle.pgw_meta.specs.NamedOids.{known_of}
 use Rattle.pgw_tree.proofs.rewrite.rewrite_row.Given as goal
 
 -- The fields of the columns behind those so far are left.
@@ -12,6 +13,6 @@ abbrev pub invariant-loop-place : goal.invariant-loop-place
 invariant-loop-place l =
     (cells : List Cell) (values : List Value) → StartsWithFields cells l.fn.fields
     → SpellsFit 2147483647 (column_shapes l.columns.types.now) cells values
-    → length (canonical_fields (column_shapes l.columns.types.now) values) ≤ l.fn.out.spare
-    → LeftToRewrite (drop l._place (column_shapes l.columns.types.now)) l.rest l.out.spare l.out.bytes
-    (l.fn.out.bytes ++ canonical_fields (column_shapes l.columns.types.now) values)
+    → length (canonical_fields (known_of l.columns.found.now) (column_shapes l.columns.types.now) values) ≤ l.fn.out.spare
+    → LeftToRewrite (known_of l.columns.found.now) (drop l._place (column_shapes l.columns.types.now)) l.rest l.out.spare l.out.bytes
+    (l.fn.out.bytes ++ canonical_fields (known_of l.columns.found.now) (column_shapes l.columns.types.now) values)

@@ -1,4 +1,5 @@
 use Rattle.std.proofs.Common.{◌≡◌, ◌≤◌, ◌++◌, List, ℕ, length}
+use Rattle.pgw_meta.specs.Known.{Known}
 use Rattle.pgw_meta.specs.Shape.{Shape}
 use Rattle.pgw_tree.specs.Runs.{AreRespelled}
 use Rattle.pgw_tree.proofs.Runs.{AreSplit}
@@ -12,7 +13,7 @@ invariant-loop-behind l = record {
   is : l.fn.canonical ≡ sent_rows ++ l.rest;
   run_is : l.fn.run ≡ front ++ l.run_rest;
   begun : length sent_rows ≤ l.sent;
-  split : (most : ℕ) (columns : List Shape) (many : ℕ) (all : AreRespelled most columns many l.fn.canonical l.fn.run) → AreSplit most columns all.rows sent_rows l.rest front l.run_rest;
+  split : (known : Known) (most : ℕ) (columns : List Shape) (many : ℕ) (all : AreRespelled known most columns many l.fn.canonical l.fn.run) → AreSplit known most columns all.rows sent_rows l.rest front l.run_rest;
 }
 
 abbrev pub decreases-loop-behind : goal.decreases-loop-behind

@@ -1,4 +1,4 @@
-use Rattle.std.proofs.Common.{◌∙◌, refl, sym, subst, inr}
+use Rattle.std.proofs.Common.{◌∙◌, refl, sym, subst}
 use Rattle.std.proofs.lemmas.Option.{none-some}
 use Rattle.std.proofs.lemmas.Result.{err_from_is_err_and}
 use Rattle.pgw_wire.proofs.Taking.{exit, took_none, takes_refused, takes_first, takes_done}
@@ -7,14 +7,15 @@ use Rattle.pgw_meta.specs.Needs.{needed_keys}
 use Rattle.pgw_tree.specs.Canonical.{canonical_front}
 use Rattle.pgw_tree.specs.Lookups.{IsLookupFault}
 use Rattle.pgw_tree.specs.declared.fault.CopyFault.TheVariants.{UnknownType, LookupFault}
-use Rattle.pgw_tree.proofs.LookedUp.{cause_says, cause_not_cut, cause_not_unread, cause_not_unwritten, cause_unknown, cause_failed, cause_unmet, cause_met, lookup_answer, no_lookup_answer}
+use Rattle.pgw_tree.proofs.LookedUp.{cause_says, found_says, cause_not_cut, cause_not_unread, cause_not_unwritten, cause_unknown, cause_failed, cause_unmet, cause_met, lookup_answer, no_lookup_answer}
+use Rattle.pgw_meta.specs.NamedOids.{known_of}
 use Rattle.pgw_tree.proofs.stream.copy_found.Goals as goal
 
 pub returns-in_err-oids-clause-takes : goal.returns-in_err-oids-clause-takes
 returns-in_err-oids-clause-takes g c =
     let ts = column_shapes c.args.types.now in
     let cause = c.in_err-oids.ensures.err in
-    takes_refused _ _ (exit c.from_residual.result _ c.from_residual.ensures.1) (took_none (cause_says c.args.limits ts (canonical_front ts) _ _ cause))
+    takes_refused _ _ (exit c.from_residual.result _ c.from_residual.ensures.1) (took_none (cause_says c.args.limits ts _ (λ found. canonical_front (known_of found) ts) _ _ cause))
     (λ is. absurd (cause_not_cut cause is)) (λ is. absurd (cause_not_unread cause is))
 
 pub returns-in_err-oids-clause-write_fault : goal.returns-in_err-oids-clause-write_fault
@@ -44,7 +45,7 @@ returns-in_err-oids-clause-met g c = λ met well lookup.
 
 pub returns-in_err-rows-clause-takes : goal.returns-in_err-rows-clause-takes
 returns-in_err-rows-clause-takes g c =
-    takes_first _ _ (exit c.from_residual-in_err-rows.result _ c.from_residual-in_err-rows.ensures.1) c.in_err-rows.ensures.takes (λ d bytes says. inr says)
+    takes_first _ _ (exit c.from_residual-in_err-rows.result _ c.from_residual-in_err-rows.ensures.1) c.in_err-rows.ensures.takes (λ d bytes says. found_says c.in_ok-oids.oids (c.in_ok-oids.ensures.found) says)
 
 pub returns-in_err-rows-clause-untouched : goal.returns-in_err-rows-clause-untouched
 returns-in_err-rows-clause-untouched g c = λ lookup.
