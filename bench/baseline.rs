@@ -7,9 +7,11 @@
 //!
 //! There is one buffer of input, which is gone through once. A row that is canonical as it stands
 //! is not written anew: such rows are handed on together, as one run of the buffer. A null, the byte
-//! of a bool and a numeric that is not a number are respelled at their place. Only bytes that are
-//! dropped interrupt a run: those behind the value of a bool, a char, an oid, an interval or a
-//! numeric, and the fields behind the last column.
+//! of a bool, a numeric that is not a number and what stands in front of the elements of an array
+//! are respelled at their place. Only bytes that are dropped interrupt a run, which are those behind
+//! the value of a bool, a char, an oid, an interval, a numeric or an array, and the fields behind the
+//! last column; and an empty array that has fewer bytes than its canonical form. Elements that lose
+//! bytes are first moved together.
 
 use std::collections::TryReserveError;
 use std::env;
@@ -34,6 +36,13 @@ const HEADER: [u8; 19] = *b"PGCOPY\n\xff\r\n\0\0\0\0\0\0\0\0\0";
 const NULL: [u8; 4] = (-1i32).to_be_bytes();
 /// A numeric that is not a number: no digits, weight 0, its sign, scale 0.
 const NOT_A_NUMBER: [u8; 8] = [0, 0, 0, 0, 0xc0, 0, 0, 0];
+/// The bytes in front of an array's elements: the number of dimensions, flags, the element's oid, how
+/// many elements there are, and the lower bound, in four bytes each.
+const HEAD: usize = 20;
+/// The bytes that every array has, of which the last are the element's oid.
+const HEAD_LEAST: usize = 12;
+/// What the head of an empty array has behind its oid: no elements, and the lower bound 1.
+const NO_ELEMENTS: [u8; 8] = [0, 0, 0, 0, 0, 0, 0, 1];
 /// The longest field that the format can state.
 const FIELD_MAX: u64 = 2147483647;
 /// How many columns the count of a row can state.
@@ -109,12 +118,24 @@ enum Type {
     Numeric,
     Text,
     Bytea,
+    /// An array of elements of the column's element type.
+    Array,
+}
+
+/// What the elements of an array are.
+#[derive(Clone, Copy)]
+struct Element {
+    of: Type,
+    nullable: bool,
+    oid: [u8; 4],
 }
 
 #[derive(Clone, Copy)]
 struct Column {
     of: Type,
     nullable: bool,
+    /// The type of the elements. Where the column has no arrays it is the column's own type.
+    element: Element,
     /// The length of a field that is canonical whatever its bytes are. No field has the length
     /// `usize::MAX`.
     usual: usize,
@@ -122,29 +143,22 @@ struct Column {
 
 impl Column {
     fn named(word: &str) -> Option<Column> {
-        let bare = word.strip_suffix('?');
-        let of = match bare.unwrap_or(word) {
-            "bool" => Type::Bool,
-            "char" => Type::Leading(1),
-            "int2" => Type::Exact(2),
-            "int4" | "date" => Type::Exact(4),
-            "int8" | "money" | "pg_lsn" | "macaddr8" | "time" | "timestamp" | "timestamptz" => {
-                Type::Exact(8)
-            }
-            "oid" => Type::Leading(4),
-            "interval" => Type::Leading(16),
-            "inet" => Type::Network(0),
-            "cidr" => Type::Network(1),
-            "numeric" => Type::Numeric,
-            "text" => Type::Text,
-            "bytea" => Type::Bytea,
-            "uuid" => Type::Exact(16),
-            "macaddr" => Type::Exact(6),
-            _ => return None,
+        let (word, nullable) = without(word, "?");
+        let (word, is_array) = without(word, "[]");
+        let (word, element_nullable) = if is_array {
+            without(word, "?")
+        } else {
+            (word, false)
         };
+        let (of, oid) = Type::named(word)?;
         Some(Column {
-            of,
-            nullable: bare.is_some(),
+            of: if is_array { Type::Array } else { of },
+            nullable,
+            element: Element {
+                of,
+                nullable: element_nullable,
+                oid: oid.to_be_bytes(),
+            },
             usual: usize::MAX,
         })
     }
@@ -161,11 +175,53 @@ impl Column {
 
     /// Whether a canonical field may have fewer bytes than one that is read.
     fn shortens(&self) -> bool {
-        matches!(self.of, Type::Leading(_) | Type::Bool | Type::Numeric)
+        self.of.shortens() || matches!(self.of, Type::Array)
+    }
+}
+
+/// The word without that ending, and whether it had it.
+fn without<'a>(word: &'a str, ending: &str) -> (&'a str, bool) {
+    match word.strip_suffix(ending) {
+        Some(bare) => (bare, true),
+        None => (word, false),
     }
 }
 
 impl Type {
+    /// The type of that name, and its oid.
+    fn named(name: &str) -> Option<(Type, u32)> {
+        Some(match name {
+            "bool" => (Type::Bool, 16),
+            "char" => (Type::Leading(1), 18),
+            "int2" => (Type::Exact(2), 21),
+            "int4" => (Type::Exact(4), 23),
+            "int8" => (Type::Exact(8), 20),
+            "oid" => (Type::Leading(4), 26),
+            "text" => (Type::Text, 25),
+            "bytea" => (Type::Bytea, 17),
+            "uuid" => (Type::Exact(16), 2950),
+            "money" => (Type::Exact(8), 790),
+            "pg_lsn" => (Type::Exact(8), 3220),
+            "macaddr" => (Type::Exact(6), 829),
+            "macaddr8" => (Type::Exact(8), 774),
+            "inet" => (Type::Network(0), 869),
+            "cidr" => (Type::Network(1), 650),
+            "date" => (Type::Exact(4), 1082),
+            "time" => (Type::Exact(8), 1083),
+            "timestamp" => (Type::Exact(8), 1114),
+            "timestamptz" => (Type::Exact(8), 1184),
+            "interval" => (Type::Leading(16), 1186),
+            "numeric" => (Type::Numeric, 1700),
+            _ => return None,
+        })
+    }
+
+    /// Whether the canonical bytes of a value may be fewer than those that are read. An array is no
+    /// element.
+    fn shortens(self) -> bool {
+        matches!(self, Type::Leading(_) | Type::Bool | Type::Numeric)
+    }
+
     /// How many of these bytes the canonical field has, where they spell a value. Whether a text is
     /// one is not looked at.
     #[inline(always)]
@@ -178,7 +234,7 @@ impl Type {
             Type::Bool => Ok(1),
             Type::Network(kind) => network_kept(kind, bytes),
             Type::Numeric => numeric_kept(bytes),
-            Type::Text | Type::Bytea => Ok(bytes.len()),
+            Type::Text | Type::Bytea | Type::Array => Ok(bytes.len()),
         }
     }
 }
@@ -219,6 +275,167 @@ fn numeric_kept(bytes: &[u8]) -> Result<usize, &'static str> {
 fn respell_numeric(bytes: &mut [u8]) {
     if bytes[4] == NOT_A_NUMBER[4] {
         bytes[..8].copy_from_slice(&NOT_A_NUMBER);
+    }
+}
+
+/// What was seen of an array's elements.
+struct Walk {
+    /// Where the last of them ends, behind the head.
+    end: usize,
+    /// How many of their bytes are dropped.
+    dropped: usize,
+    nulls: bool,
+}
+
+/// Passes over as many elements. `kept` answers how many bytes of one are kept, and may respell it.
+#[inline(always)]
+fn walk(
+    frames: &mut [u8],
+    count: usize,
+    nulls_are_told: bool,
+    nullable: bool,
+    kept: impl Fn(&mut [u8]) -> Result<usize, &'static str>,
+) -> Result<Walk, &'static str> {
+    let mut seen = Walk {
+        end: 0,
+        dropped: 0,
+        nulls: false,
+    };
+    for _ in 0..count {
+        let start = seen.end + 4;
+        let length = i32::from_be_bytes(bytes_at(frames, seen.end).ok_or("size")?);
+        seen.end = match usize::try_from(length) {
+            Ok(length) => {
+                let element = frames.get_mut(start..start + length).ok_or("size")?;
+                seen.dropped += length - kept(element)?;
+                start + length
+            }
+            Err(_) if length != -1 || !nulls_are_told => return Err("size"),
+            Err(_) if !nullable => return Err("null"),
+            Err(_) => {
+                seen.nulls = true;
+                start
+            }
+        };
+    }
+    Ok(seen)
+}
+
+/// Whether the frames, of `N` bytes each, all state that length.
+#[inline(always)]
+fn all_state<const N: usize>(frames: &[u8], length: u32) -> bool {
+    let differ = |bits, frame: &[u8]| match frame.first_chunk() {
+        Some(stated) => bits | (u32::from_be_bytes(*stated) ^ length),
+        None => u32::MAX,
+    };
+    frames.chunks_exact(N).fold(0, differ) == 0
+}
+
+impl Element {
+    /// Where as many elements end that all have that size, if they do.
+    #[inline(always)]
+    fn behind_equal(frames: &[u8], count: usize, size: usize) -> Option<usize> {
+        let end = count * (4 + size);
+        let frames = frames.get(..end)?;
+        let length = size as u32;
+        let equal = match size {
+            1 => all_state::<5>(frames, length),
+            2 => all_state::<6>(frames, length),
+            4 => all_state::<8>(frames, length),
+            6 => all_state::<10>(frames, length),
+            8 => all_state::<12>(frames, length),
+            16 => all_state::<20>(frames, length),
+            _ => false,
+        };
+        equal.then_some(end)
+    }
+
+    /// Passes over as many elements. The byte of each bool and each numeric that is not a number are
+    /// made canonical.
+    #[inline(always)]
+    fn pass(&self, frames: &mut [u8], count: usize, told: bool) -> Result<Walk, &'static str> {
+        let nullable = self.nullable;
+        if let Type::Exact(size) | Type::Leading(size) = self.of {
+            if let Some(end) = Element::behind_equal(frames, count, size) {
+                return Ok(Walk {
+                    end,
+                    dropped: 0,
+                    nulls: false,
+                });
+            }
+        }
+        match self.of {
+            Type::Text => walk(frames, count, told, nullable, |bytes| {
+                match is_text(bytes) {
+                    true => Ok(bytes.len()),
+                    false => Err("utf8"),
+                }
+            }),
+            Type::Bytea => walk(frames, count, told, nullable, |bytes| Ok(bytes.len())),
+            Type::Bool => walk(frames, count, told, nullable, |bytes| {
+                let first = bytes.first_mut().ok_or("size")?;
+                *first = (*first).min(1);
+                Ok(1)
+            }),
+            Type::Numeric => walk(frames, count, told, nullable, |bytes| {
+                let kept = numeric_kept(bytes)?;
+                respell_numeric(bytes);
+                Ok(kept)
+            }),
+            of => walk(frames, count, told, nullable, |bytes| of.kept(bytes)),
+        }
+    }
+
+    /// Checks an array, and answers how many bytes its canonical form has. They are then the first of
+    /// these bytes. Where these are fewer the array is empty, and only its flags and its oid are made
+    /// canonical. What is changed spells the same array, since the row may be looked at once more.
+    #[inline(never)]
+    fn check(&self, bytes: &mut [u8]) -> Result<usize, &'static str> {
+        let dimensions = match bytes.first_chunk() {
+            Some(dimensions) if bytes.len() >= HEAD_LEAST => u32::from_be_bytes(*dimensions),
+            _ => return Err("size"),
+        };
+        let Some((head, frames)) = bytes.split_first_chunk_mut::<HEAD>() else {
+            if dimensions != 0 {
+                return Err("size");
+            }
+            bytes[4..8].fill(0);
+            bytes[8..HEAD_LEAST].copy_from_slice(&self.oid);
+            return Ok(HEAD);
+        };
+        let told = head[4..8] != [0; 4];
+        let stated = bytes_at(head, 12).map_or(0, i32::from_be_bytes);
+        let count = match dimensions {
+            0 => 0,
+            1 => usize::try_from(stated).unwrap_or(0),
+            _ => return Err("dimensions"),
+        };
+        let seen = self.pass(frames, count, told)?;
+        head[..8].copy_from_slice(&[0, 0, 0, 1, 0, 0, 0, seen.nulls.into()]);
+        head[8..12].copy_from_slice(&self.oid);
+        head[12..16].copy_from_slice(&(count as u32).to_be_bytes());
+        head[16..].copy_from_slice(&[0, 0, 0, 1]);
+        if seen.dropped > 0 {
+            self.move_together(frames, count);
+        }
+        Ok(HEAD + seen.end - seen.dropped)
+    }
+
+    /// Moves as many elements together, each without the bytes that it does not keep. They were
+    /// passed over before.
+    fn move_together(&self, bytes: &mut [u8], count: usize) {
+        let (mut from, mut to) = (0, 0);
+        for _ in 0..count {
+            let Some((element, behind)) = field_at(bytes, from) else {
+                break;
+            };
+            let kept = element.map(|element| self.of.kept(element).unwrap_or(0));
+            let length = kept.map_or(NULL, |kept| (kept as u32).to_be_bytes());
+            let (start, kept) = (from + 4, kept.unwrap_or(0));
+            bytes[to..to + 4].copy_from_slice(&length);
+            bytes.copy_within(start..start + kept, to + 4);
+            (from, to) = (behind, to + 4 + kept);
+        }
     }
 }
 
@@ -369,11 +586,12 @@ enum Stop {
     Bad(usize, &'static str),
 }
 
-/// A field that has more bytes than its canonical form.
+/// A field that has another length than its canonical form.
 struct Surplus {
     /// Where its length stands.
     place: usize,
-    /// How many bytes behind the length are kept.
+    /// How many bytes the canonical form has. They stand behind the length, but for an empty array
+    /// that has fewer.
     kept: usize,
     /// Where it ends.
     behind: usize,
@@ -394,9 +612,10 @@ impl Plan {
     }
 
     /// Checks the field of each column, of which the first is at a place. Makes each null, the byte
-    /// of each bool and each numeric that is not a number canonical, and answers where the last
-    /// field ends. Of the fields that have more bytes than they keep a list is made, since only a
-    /// row that is taken may lose them. `SHORTENS` tells whether a column may have such fields.
+    /// of each bool, each numeric that is not a number and the head of each array canonical, and
+    /// answers where the last field ends. Of the fields that have another length than their
+    /// canonical form a list is made, since only a row that is taken may be changed in it.
+    /// `SHORTENS` tells whether a column may have such fields.
     #[inline(always)]
     fn check_fields<const SHORTENS: bool>(
         &self,
@@ -418,11 +637,16 @@ impl Plan {
                     self.check_text(field).map_err(bad)?
                 }
                 Some(field) => {
-                    let kept = of.of.kept(field).map_err(bad)?;
+                    let length = field.len();
+                    let kept = match of.of {
+                        Type::Array => of.element.check(&mut bytes[place + 4..behind]),
+                        scalar => scalar.kept(field),
+                    };
+                    let kept = kept.map_err(bad)?;
                     if kept > self.field_max {
                         return Err(bad("too long"));
                     }
-                    if SHORTENS && kept < field.len() {
+                    if SHORTENS && kept != length {
                         surplus.push(Surplus {
                             place,
                             kept,
@@ -511,9 +735,10 @@ struct Copier {
     row: usize,
     run: usize,
     rows: u64,
-    /// The fields of the row that have more bytes than they keep.
+    /// The fields of the row that have another length than their canonical form.
     surplus: Vec<Surplus>,
-    /// What is dropped of the run: from where, and to where.
+    /// What is dropped of the run: from where, and to where. Where that is nothing, `NO_ELEMENTS` are
+    /// missing there.
     gaps: Vec<(usize, usize)>,
 }
 
@@ -526,7 +751,7 @@ impl Copier {
         let mut surplus = Vec::new();
         surplus.try_reserve_exact(shortened)?;
         let mut gaps = Vec::new();
-        gaps.try_reserve_exact(GAPS + shortened)?;
+        gaps.try_reserve_exact(GAPS + 2 * shortened)?;
         Ok(Copier {
             layout: plan.layout()?,
             plan,
@@ -557,7 +782,10 @@ impl Copier {
     fn hand_on_gaps(&mut self) -> Result<()> {
         let mut run = mem::replace(&mut self.run, self.row);
         for (from, to) in self.gaps.drain(..) {
-            let handed = self.output.write_all(&self.buffer[run..from]);
+            let mut handed = self.output.write_all(&self.buffer[run..from]);
+            if from == to {
+                handed = handed.and_then(|()| self.output.write_all(&NO_ELEMENTS));
+            }
             handed.map_err(|_| Fault::Write)?;
             run = to;
         }
@@ -658,7 +886,18 @@ impl Copier {
             let start = field.place + 4;
             let length = (field.kept as u32).to_be_bytes();
             self.buffer[field.place..start].copy_from_slice(&length);
-            self.gaps.push((start + field.kept, field.behind));
+            let from = start + field.kept;
+            if from < field.behind {
+                self.gaps.push((from, field.behind));
+                continue;
+            }
+            // The number of dimensions, behind which the flags and the oid are canonical.
+            let from = start + HEAD_LEAST;
+            self.buffer[start..start + 4].copy_from_slice(&[0, 0, 0, 1]);
+            self.gaps.push((from, from));
+            if from < field.behind {
+                self.gaps.push((from, field.behind));
+            }
         }
     }
 
