@@ -1,9 +1,7 @@
-//! Tests of what the clauses of cells, of the stream's reader and writer, and of copying don't say. The crates that they
-//! are of are proved once, without them.
+//! Tests of what the clauses of the stream's reader and writer, and of copying, don't say. The crates that they are of are
+//! proved once, without them.
 #![tactic(auto)]
 
-#[cfg(test)]
-mod cell;
 #[cfg(test)]
 mod copy;
 #[cfg(test)]
