@@ -3,7 +3,7 @@ ghost use Rattle.pgw_wire.specs.Cell.{cell_of, frame};
 ghost use Rattle.pgw_meta.specs.NamedOids.{known_of};
 ghost use Rattle.pgw_meta.specs.Shape.{array};
 ghost use Rattle.pgw_meta.specs.Types.{shape};
-ghost use Rattle.pgw_nested.specs.Array.{is_null, any_null};
+ghost use Rattle.pgw_nested.specs.Array.{is_null, any_null, flags_of, array_head};
 ghost use Rattle.pgw_nested.specs.Frames.{frames};
 ghost use Rattle.pgw_nested.specs.Pieces.{elements_of};
 ghost use Rattle.pgw_cell.specs.Value.{Value};
@@ -13,6 +13,7 @@ ghost use Rattle.pgw_cell.specs.Written.{HasRoom, Appends, cells_read, cells_wri
 
 use crate::measure::is_of_bytes;
 use crate::piece::{are_bytes, written};
+use crate::plain::plain_elements;
 use pgw_meta::{FoundOids, PgType, oid_of};
 use pgw_nested::{ArrayPieces, close_length, place_array, place_length};
 use pgw_wire::{ByteBuffer, RawCell};
@@ -88,10 +89,43 @@ fn push_piece(t: &PgType, piece: &[u8], found: &FoundOids, out: &mut ByteBuffer)
     }
 }
 
+/// Appends the field of an array of so many elements, whose type has this oid, into the room that was made for it. A null is
+/// among them or none is, and the bytes are those of their fields.
+fn push_plain_array(oid: u32, count: u32, null: bool, elements: &[u8], out: &mut ByteBuffer)
+    requires count { count ≤ 2147483647 }
+    requires small { 20 + length elements.now ≤ 2147483647 }
+    requires room { 24 + length elements.now ≤ out.old.spare }
+    ensures bytes { out.new.bytes
+        ≡ out.old.bytes ++ frame (Some (array_head (flags_of null) oid count 1 ++ elements.now)) }
+    ensures spare { out.new.spare + (24 + length elements.now) ≡ out.old.spare }
+{
+    let place = place_length(out);
+    let flags = place_array(out, oid, count);
+    out.push_reserved(elements);
+    say_nulls(out, flags, null);
+    close_length(out, place);
+}
+
 /// The same of a piece of an array of such elements.
 #[cycle(rewriting)]
 #[inline(never)]
 fn push_array(element: &PgType, piece: &[u8], found: &FoundOids, out: &mut ByteBuffer)
+    requires { HasRoom (read_piece (array (shape element.now)) piece.now)
+        (λ v. frame (Some (canonical_piece (known_of found.now) (array (shape element.now)) v))) out.old.spare }
+    ensures { Appends (read_piece (array (shape element.now)) piece.now)
+        (λ v. frame (Some (canonical_piece (known_of found.now) (array (shape element.now)) v))) out.old out.new }
+{
+    match plain_elements(element, piece) {
+        Some((count, null, elements)) => {
+            push_plain_array(oid_of(found, element), count, null, elements, out);
+        }
+        None => push_other_array(element, piece, found, out),
+    }
+}
+
+/// The same, element by element.
+#[cycle(rewriting)]
+fn push_other_array(element: &PgType, piece: &[u8], found: &FoundOids, out: &mut ByteBuffer)
     requires { HasRoom (read_piece (array (shape element.now)) piece.now)
         (λ v. frame (Some (canonical_piece (known_of found.now) (array (shape element.now)) v))) out.old.spare }
     ensures { Appends (read_piece (array (shape element.now)) piece.now)
