@@ -33,7 +33,7 @@ use Rattle.pgw_cell.specs.declared.plain.Rule.TheVariants.{Truth, Array as rule_
 use Rattle.pgw_cell.specs.declared.plain.PlainElement.{PlainElement}
 use Rattle.std.specs.List.{AllByRecursion}
 use Rattle.pgw_meta.specs.Schema.{is_nullable}
-use Rattle.pgw_nested.specs.Array.{Each, AreArrayCells, HasOneDimension, one_dimension, elements_behind, elements_in, is_null, any_null, flags_of, array_head, array_bytes}
+use Rattle.pgw_nested.specs.Array.{Each, HasOneDimension, one_dimension, elements_behind, is_null, any_null, flags_of, array_head, array_bytes}
 use Rattle.pgw_nested.specs.Frames.{frames, AreFramed}
 use Rattle.pgw_nested.proofs.ReadingOn.{frames_more}
 use Rattle.pgw_cell.proofs.ArrayPieces.{listed_values, frame_length}
