@@ -34,7 +34,7 @@ sized-returns-in-Err t c =
 pub sized_array-returns-in-Some : goal.sized_array-returns-in-Some
 sized_array-returns-in-Some t c =
     ap Ok c.min.ensures
-    ∙ plain_size (shape c.args.element.now) c.args.piece.now c.in-Some.field-0-0 c.in-Some.field-0-1 c.in-Some.elements.now (λ i. omega (arith, c.type_inv.piece i)) c.in-Some.ensures
+    ∙ plain_size (shape c.args.element.now) c.args.piece.now c.in-Some._count c.in-Some._null c.in-Some.elements.now (λ i. omega (arith, c.type_inv.piece i)) c.in-Some.ensures
 
 pub sized_array-returns-in-Ok : goal.sized_array-returns-in-Ok
 sized_array-returns-in-Ok t c = c.sized_elements.ensures ∙ array_sizes (shape c.args.element.now) c.args.piece.now (elements_of c.in-Ok.pieces) c.in-Ok.ensures
