@@ -10,3 +10,14 @@ mod Begun
 pub mod ReadingOn
 mod Refusals
 pub mod Writings
+pub mod RangeFields
+pub mod Counted
+pub mod MultirangeFields
+pub mod RangeCanonical
+pub mod RangeBreaking
+pub mod WorkedRanges
+mod Steps
+mod Cut
+mod Bounds
+mod RangeWritings
+mod SoFar

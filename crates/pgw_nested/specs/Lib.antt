@@ -7,3 +7,9 @@ pub mod Pieces
 pub mod Written
 pub mod Marks
 pub mod Writing
+pub mod Flags
+pub mod Range
+pub mod Multirange
+pub mod RangeReading
+pub mod RangePieces
+pub mod RangeWritten

@@ -7,23 +7,13 @@ ghost use Rattle.pgw_nested.specs.Frames.{IsFramed, HasNoFrame};
 ghost use Rattle.pgw_nested.specs.Array.{BeginsArray, BeginsNoArray, elements_in};
 ghost use Rattle.pgw_nested.specs.Pieces.{elements_of, GivesNext};
 
+use crate::cuts::{NEGATIVE, take_word};
 use pgw_wire::deserialize::Result;
-use pgw_wire::{PgValue, RawCell, SqlError, take_piece, take_u32};
+use pgw_wire::{PgValue, RawCell, SqlError, take_piece};
 use std::num::NonZeroU32;
 
 /// The length of a null, -1, as a number without sign.
 const NULL: u32 = 0xffff_ffff;
-
-/// The least number without sign that is negative as one with sign.
-const NEGATIVE: u32 = 0x8000_0000;
-
-/// The number in the first four bytes, and the rest. `ShortBuffer` exactly where fewer are there.
-fn take_word(bytes: &[u8]) -> Result<(u32, &[u8])>
-    ensures { MatchResult result (λ x. (bytes.now ≡ to_be_bytes w32 x.0 ++ x.1.now) × (x.0 < 2 ^ 32))
-        (λ e. (e ≡ short_buffer) × (length bytes.now < 4)) }
-{
-    take_u32(bytes).ok_or(SqlError::ShortBuffer)
-}
 
 /// The cell whose frame stands in front of the bytes, and the rest: a length of 4 bytes, and as many bytes. Where nulls
 /// may stand, the length -1 is a null's. `ShortBuffer` where the bytes end inside the length, `NegativeSize` with any

@@ -14,7 +14,7 @@ use pgw_meta::{HasSqlType, Pg, PgMetadataLookup};
 use pgw_wire::{IsNull, Output};
 
 /// Writes an element: its length and its bytes, or the length of a null, where what was written of it is taken back.
-fn write_element<ST, T: ToSql<ST>, L: PgMetadataLookup>(
+pub(crate) fn write_element<ST, T: ToSql<ST>, L: PgMetadataLookup>(
     item: &T,
     out: &mut Output<'_, L>,
 ) -> serialize::Result

@@ -1,7 +1,10 @@
+ghost use Rattle.std.specs.Prelude.{◌≡◌};
+ghost use Rattle.pgw_meta.specs.Naming.{built_in};
+ghost use Rattle.pgw_scalar.specs.BuiltIn.{AreOids};
 ghost use Rattle.pgw_nested.specs.Naming.{of_arrays};
 
-use crate::sql_types::{Array, Nullable};
-use pgw_meta::{HasSqlType, LookupError, Pg, PgMetadataLookup, PgTypeMetadata};
+use crate::sql_types::{Array, Multirange, Nullable, Range};
+use pgw_meta::{HasSqlType, LookupError, Pg, PgMetadataLookup, PgTypeMetadata, RangeElement};
 use std::alloc::Global;
 
 impl<ST> HasSqlType<Nullable<ST>> for Pg
@@ -36,5 +39,35 @@ where
             Ok((_, array_oid)) => Ok(PgTypeMetadata::new(array_oid, 0)),
             Err(unknown) => Ok(PgTypeMetadata::from_result(Err(unknown))),
         }
+    }
+}
+
+impl<ST: RangeElement> HasSqlType<Range<ST>> for Pg {
+    ghost names = { built_in ST.RANGE_OID ST.RANGE_ARRAY_OID };
+
+    /// The oids of the type of the ranges and of its arrays. It takes no memory.
+    fn metadata<L: PgMetadataLookup>(
+        _alloc: Global,
+        _lookup: &mut L,
+    ) -> Result<PgTypeMetadata, LookupError>
+        ensures oids { AreOids ST.RANGE_OID ST.RANGE_ARRAY_OID result }
+        ensures lookup { _lookup.new ≡ _lookup.old }
+    {
+        Ok(PgTypeMetadata::new(ST::RANGE_OID, ST::RANGE_ARRAY_OID))
+    }
+}
+
+impl<ST: RangeElement> HasSqlType<Multirange<ST>> for Pg {
+    ghost names = { built_in ST.MULTIRANGE_OID ST.MULTIRANGE_ARRAY_OID };
+
+    /// The oids of the type of the multiranges and of its arrays. It takes no memory.
+    fn metadata<L: PgMetadataLookup>(
+        _alloc: Global,
+        _lookup: &mut L,
+    ) -> Result<PgTypeMetadata, LookupError>
+        ensures oids { AreOids ST.MULTIRANGE_OID ST.MULTIRANGE_ARRAY_OID result }
+        ensures lookup { _lookup.new ≡ _lookup.old }
+    {
+        Ok(PgTypeMetadata::new(ST::MULTIRANGE_OID, ST::MULTIRANGE_ARRAY_OID))
     }
 }
