@@ -30,14 +30,14 @@ no_list : (vs : List Value) → list_of vs ≡ null → ⊥
 no_list vs e = absurd (cc)
 
 -- when pieces are read exactly, said in the other form
-of_cells : {A : Type 0} {Spell : List ℕ → A → Type 0} {Broken : Break → List ℕ → Type 0} {read : List ℕ → Result A Break} → exact_cells.IsExact IsBytes Spell (λ p kind. Broken kind p) read → IsExact Spell Broken read
+pub of_cells : {A : Type 0} {Spell : List ℕ → A → Type 0} {Broken : Break → List ℕ → Type 0} {read : List ℕ → Result A Break} → exact_cells.IsExact IsBytes Spell (λ p kind. Broken kind p) read → IsExact Spell Broken read
 of_cells e = record {
   reads = record { again = e.again };
   sound = record { spelled = e.spelled };
   refuses = record { refused = λ kind p b. e.refused p kind b; broken = λ kind p bytes r. e.fails p kind bytes r };
 }
 
-each_has : (Spell : Cell → Value → Type 0) (Has : Value → Type 0) (has : (c : Cell) (v : Value) → Spell c v → Has v) (cs : List Cell) (vs : List Value) → Each Spell cs vs → AllByRecursion Has vs
+pub each_has : (Spell : Cell → Value → Type 0) (Has : Value → Type 0) (has : (c : Cell) (v : Value) → Spell c v → Has v) (cs : List Cell) (vs : List Value) → Each Spell cs vs → AllByRecursion Has vs
 each_has Spell Has has [] [] s = tt
 each_has Spell Has has [] (v ∷ vs) s = absurd s
 each_has Spell Has has (c ∷ cs) [] s = absurd s
@@ -77,7 +77,7 @@ module _ (nulls : Bool) {Has : Value → Type 0} {Spell : List ℕ → Value →
   each_framed (v ∷ vs) has fits =
       (one_framed (cell_by canonical v) (omega (arith, fits, cell_counted nulls w v has.0)), each_framed vs has.1 (omega (arith, fits)))
 
-  each_written : (vs : List Value) → AllByRecursion (HasCell nulls Has) vs → frames_size (size_by size) vs ≤ 2147483647 → Each (SpellsCell nulls Spell) (map (cell_by canonical) vs) vs
+  pub each_written : (vs : List Value) → AllByRecursion (HasCell nulls Has) vs → frames_size (size_by size) vs ≤ 2147483647 → Each (SpellsCell nulls Spell) (map (cell_by canonical) vs) vs
   each_written [] has fits = tt
   each_written (v ∷ vs) has fits = (cell_written nulls w v has.0 (omega (arith, fits)), each_written vs has.1 (omega (arith, fits)))
 

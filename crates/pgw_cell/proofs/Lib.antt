@@ -2,6 +2,7 @@ pub mod Told
 pub mod Spellings
 pub mod NullCells
 pub mod ArrayPieces
+pub mod RangePieces
 pub mod Pieces
 pub mod Lists
 pub mod Elements

@@ -1,11 +1,15 @@
 -- The values of the program as values of columns.
-use Rattle.std.specs.Prelude.{◌≡◌, Bool, true, false, List, map, Result, Ok, Err, IsTrue}
+use Rattle.std.specs.Prelude.{◌≡◌, ◌||◌, Bool, true, false, List, map, Result, Ok, Err, IsTrue}
 use Rattle.pgw_wire.specs.declared.kind.Break.{Break}
 use Rattle.pgw_numeric.specs.Numeric.{number as numeric_number, not_a_number}
-use Rattle.pgw_cell.specs.Value.{Value, null, truth, number, bytes, string, network, interval, numeric, list, Values, no_values, value_then}
+use Rattle.pgw_cell.specs.Value.{Value, null, truth, number, bytes, string, network, interval, numeric, list, range, multirange, BoundValue, unbounded, included, excluded, Values, no_values, value_then}
+use Rattle.pgw_cell.specs.declared.datum.BoundDatum.{BoundDatum}
+use Rattle.pgw_cell.specs.declared.datum.BoundDatum.TheVariants.{Unbounded, Included', Excluded'}
+use Rattle.pgw_cell.specs.declared.datum.RangeDatum.{RangeDatum}
+use Rattle.pgw_cell.specs.declared.datum.RangeList.{RangeList, out-RangeList, RangeList', Row_of-RangeDatum, end_of-RangeDatum, more_of-RangeDatum}
 use Rattle.pgw_cell.specs.declared.datum.DatumList.{DatumList}
 use Rattle.pgw_cell.specs.declared.datum.Datum.{Datum, Row_of-Datum, end_of-Datum, more_of-Datum}
-use Rattle.pgw_cell.specs.declared.datum.Datum.TheVariants.{Null, Truth, Number, Bytes, Text, Network, Interval, Numeric, NotANumber, List'}
+use Rattle.pgw_cell.specs.declared.datum.Datum.TheVariants.{Null, Truth, Number, Bytes, Text, Network, Interval, Numeric, NotANumber, List', Bounds', Ranges}
 use Rattle.pgw_cell.specs.declared.read.CellFault.{CellFault}
 use Rattle.pgw_cell.specs.declared.read.CellFault.TheVariants.{Break as Broken, NoMemory}
 
@@ -22,10 +26,24 @@ abbrev mutual
   value_of (Numeric negative weight scale digits) = numeric (numeric_number negative weight scale digits)
   value_of NotANumber = numeric not_a_number
   value_of (List' n ds) = list (row_values ds)
+  value_of (Bounds' lower upper) = range (bound_of lower) (bound_of upper)
+  value_of (Ranges rs) = multirange (list_ranges rs)
+
+  pub bound_of : BoundDatum → BoundValue
+  bound_of Unbounded = unbounded
+  bound_of (Included' p d) = included (value_of d)
+  bound_of (Excluded' p d) = excluded (value_of d)
+
+  pub list_ranges : RangeList → Values
+  list_ranges (RangeList' n rs) = row_ranges rs
 
   pub row_values : {m : _} → Row_of-Datum m → Values
   row_values end_of-Datum = no_values
   row_values (more_of-Datum d ds) = value_then (value_of d) (row_values ds)
+
+  pub row_ranges : {m : _} → Row_of-RangeDatum m → Values
+  row_ranges end_of-RangeDatum = no_values
+  row_ranges (more_of-RangeDatum lower upper rs) = value_then (range (bound_of lower) (bound_of upper)) (row_ranges rs)
 
 abbrev pub data_of : DatumList → List Datum
 data_of l = l.data
@@ -34,6 +52,18 @@ data_of l = l.data
 abbrev pub values_of : List Datum → List Value
 values_of ds = map value_of ds
 
+abbrev pub ranges_of : RangeList → List RangeDatum
+ranges_of l = (out-RangeList l).data
+
+-- a range as a value
+abbrev pub value_of_range : RangeDatum → Value
+value_of_range r = range (bound_of r.lower) (bound_of r.upper)
+
+-- whether the bound has a value
+abbrev pub has_value : BoundValue → Bool
+has_value unbounded = false
+has_value _ = true
+
 -- whether memory is asked for where the value is made
 abbrev pub takes_memory : Value → Bool
 takes_memory (bytes b) = true
@@ -41,10 +71,15 @@ takes_memory (string s) = true
 takes_memory (network n) = true
 takes_memory (numeric (numeric_number negative weight scale digits)) = true
 takes_memory (list (value_then v vs)) = true
+takes_memory (range lower upper) = has_value lower || has_value upper
+takes_memory (multirange (value_then v vs)) = true
 takes_memory _ = false
 
 -- What is answered is what was read, or, where that takes memory, that it was refused.
+abbrev pub AnswersBy : {A : Type 0} → (A → Value) → Result A CellFault → Result Value Break → Type 0
+AnswersBy value (Ok d) read = read ≡ Ok (value d)
+AnswersBy value (Err (Broken kind)) read = read ≡ Err kind
+AnswersBy value (Err NoMemory) read = (v : Value) × (read ≡ Ok v) × IsTrue (takes_memory v)
+
 abbrev pub AnswersAs : Result Datum CellFault → Result Value Break → Type 0
-AnswersAs (Ok d) read = read ≡ Ok (value_of d)
-AnswersAs (Err (Broken kind)) read = read ≡ Err kind
-AnswersAs (Err NoMemory) read = (v : Value) × (read ≡ Ok v) × IsTrue (takes_memory v)
+AnswersAs = AnswersBy value_of

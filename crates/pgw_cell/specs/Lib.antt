@@ -3,6 +3,7 @@ pub mod Built
 pub mod Spellings
 pub mod Nulls
 pub mod Arrays
+pub mod Ranges
 pub mod Pieces
 pub mod Cells
 pub mod Written

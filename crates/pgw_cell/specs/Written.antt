@@ -1,6 +1,8 @@
 -- What a piece is written as again, which the proofs of measuring and rewriting go by.
-use Rattle.std.specs.Prelude.{◌≡◌, ℕ, ◌<◌, ◌≤◌, ◌+◌, ◌++◌, min, Bool, List, length, map, get_or, None, Some, Result, Ok, Err, take, if◌then◌else◌, nat_le, nat_lt}
+use Rattle.std.specs.Prelude.{◌≡◌, ℕ, ◌<◌, ◌≤◌, ◌+◌, ◌++◌, min, Bool, false, List, length, map, get_or, Option, option_map, None, Some, Result, Ok, Err, take, if◌then◌else◌, nat_le, nat_lt}
 use Rattle.std.specs.Int.{to_be_bytes, w32}
+use Rattle.std.specs.Range.Bound.{bound_map}
+use Rattle.std.specs.declared.ops.Bound.{Bound}
 use Rattle.pgw_wire.specs.Cell.{Cell}
 use Rattle.pgw_wire.specs.declared.kind.Break.{Break}
 use Rattle.pgw_wire.specs.declared.kind.Break.TheVariants.{Size}
@@ -13,8 +15,14 @@ use Rattle.pgw_numeric.specs.Numeric.{not_a_number, numeric_bytes}
 use Rattle.pgw_cell.specs.Value.{Value, network}
 use Rattle.pgw_cell.specs.Spellings.{spelling, bytes_of_network, read_as}
 use Rattle.pgw_nested.specs.Array.{Elements, kind_named}
+use Rattle.pgw_nested.specs.Frames.{frames}
 use Rattle.pgw_nested.specs.Reading.{read_cells}
+use Rattle.pgw_nested.specs.Range.{Bounds, bound_bytes, range_bytes}
+use Rattle.pgw_nested.specs.RangeReading.{read_bound}
+use Rattle.pgw_cell.specs.Nulls.{cell_by, read_by}
 use Rattle.pgw_cell.specs.Arrays.{frames_size}
+use Rattle.pgw_cell.specs.Ranges.{bound_cell, bound_cells, default_of, part_spelling, range_spelling, read_bounds}
+use Rattle.pgw_cell.specs.declared.range.CanonicalRange.{CanonicalRange}
 use Rattle.pgw_cell.specs.Cells.{canonical_cell, canonical_size, read_value}
 use Rattle.pgw_cell.specs.declared.piece.Canonical.{Canonical}
 use Rattle.pgw_cell.specs.declared.piece.Canonical.TheVariants.{Truth, Bytes, NotANumber}
@@ -55,6 +63,52 @@ abbrev pub network_read : ℕ → List ℕ → Result (List ℕ) Break
 network_read type_byte p =
     canonical_of (bytes_of_network (network_bytes type_byte)) (read_as network (read_network type_byte p))
 
+-- ---- ranges
+
+-- a bound without its value
+abbrev pub kind_of_bound : {A : Type 0} → Bound A → Bound (Unit {0})
+kind_of_bound bound = bound_map (λ x. tt) bound
+
+-- a bound and what its value is written as, as a cell
+abbrev pub cell_of_bound : Bound Canonical → Bound Cell
+cell_of_bound bound = bound_map (λ w. Some (bytes_of w)) bound
+
+abbrev pub cells_of_range : CanonicalRange → Bounds Cell
+cells_of_range r = (cell_of_bound r.lower, cell_of_bound r.upper)
+
+abbrev pub bytes_of_bound : Bound Canonical → List ℕ
+bytes_of_bound bound = bound_bytes (cell_of_bound bound)
+
+abbrev pub bytes_of_range : CanonicalRange → List ℕ
+bytes_of_range r = range_bytes (cells_of_range r)
+
+-- what the default of a type is written as that there are ranges over
+abbrev pub default_answer : Option Canonical → Option (List ℕ)
+default_answer default = option_map bytes_of default
+
+abbrev pub default_bytes : Shape → Option (List ℕ)
+default_bytes t = option_map (part_spelling t).canonical (default_of t)
+
+-- the cells of bounds, by what was read of them
+abbrev pub answer_by : {A B : Type 0} → (A → B) → Result A Break → Result B Break
+answer_by f (Ok x) = Ok (f x)
+answer_by f (Err kind) = Err kind
+
+abbrev pub bound_answer : Result (Bound Canonical) Break → Result (Bound Cell) Break
+bound_answer r = answer_by cell_of_bound r
+
+abbrev pub bound_read : Shape → Bound (List ℕ) → Result (Bound Cell) Break
+bound_read t piece =
+    answer_by (bound_cell (part_spelling t).canonical) (read_bound (read_by false (part_spelling t).read) piece)
+
+abbrev pub range_answer : Result CanonicalRange Break → Result (Bounds Cell) Break
+range_answer r = answer_by cells_of_range r
+
+abbrev pub range_read : Shape → List ℕ → Result (Bounds Cell) Break
+range_read t p = answer_by (bound_cells (part_spelling t).canonical) (read_bounds t p)
+
+-- ---- sizes
+
 -- A size as it is counted: more than a field may have is no more than this.
 abbrev pub counted : ℕ → ℕ
 counted n = min n 4294967296
@@ -91,6 +145,10 @@ with_nulls null flags bytes = if null then overwritten bytes flags (to_be_bytes 
 -- the canonical cells of elements, by what was read of them
 abbrev pub cells_written : Known → Shape → List Value × List ℕ → List Cell
 cells_written known t x = map (canonical_cell known t) x.0
+
+-- the frames of ranges over a type, by what was read of them
+abbrev pub ranges_written : Shape → List Value × List ℕ → List ℕ
+ranges_written t x = frames (map (cell_by (range_spelling t).canonical) x.0)
 
 -- A cell's bytes are numbers below 256.
 abbrev pub AreBytes : Cell → Type 0

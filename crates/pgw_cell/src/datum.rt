@@ -1,6 +1,6 @@
 ghost use Rattle.std.specs.Prelude.{◌≡◌, [], ◌∷◌, ◌++◌, OnOk, OnErr, length, slice_get};
 ghost use Rattle.std.specs.Option.{option_copied};
-ghost use Rattle.pgw_cell.specs.Data.{data_of};
+ghost use Rattle.pgw_cell.specs.Data.{data_of, ranges_of};
 
 use crate::{ByteList, DigitList};
 use pgw_meta::NameText;
@@ -47,6 +47,10 @@ pub enum Datum {
     NotANumber,
     /// Of an array: its elements.
     List(DatumList),
+    /// Of a range: its bounds.
+    Bounds(RangeDatum),
+    /// Of a multirange: its ranges.
+    Ranges(RangeList),
 }
 
 /// Values in order: the elements of an array.
@@ -92,6 +96,71 @@ impl DatumList {
     /// The values.
     pub fn as_slice(&self) -> &[Datum]
         ensures { result.now ≡ data_of self.now }
+    {
+        self.data.as_slice()
+    }
+}
+
+/// The bounds of a range.
+#[cycle(data)]
+#[derive(Debug, Drop)]
+pub struct RangeDatum {
+    pub lower: BoundDatum,
+    pub upper: BoundDatum,
+}
+
+/// A bound of a range: there is none, or the range includes its value, or it does not.
+#[cycle(data)]
+#[derive(Debug, Drop)]
+pub enum BoundDatum {
+    Unbounded,
+    Included(Box<Datum>),
+    Excluded(Box<Datum>),
+}
+
+/// Ranges in order: those of a multirange.
+#[cycle(data)]
+#[derive(Debug, Drop)]
+pub struct RangeList {
+    data: Items<RangeDatum>,
+}
+
+impl RangeList {
+    /// No ranges. It takes no memory.
+    pub fn new(alloc: Global) -> RangeList
+        ensures { ranges_of result ≡ [] }
+    {
+        RangeList {
+            data: Items::new(alloc),
+        }
+    }
+
+    /// Appends a range. Where memory is refused, the range is dropped and the list is as before.
+    pub fn push(&mut self, item: RangeDatum) -> Result<(), NoMemory>
+        ensures ok { OnOk result (ranges_of self.new ≡ ranges_of self.old ++ (item ∷ [])) }
+        ensures err { OnErr result (ranges_of self.new ≡ ranges_of self.old) }
+    {
+        self.data.push(item)?;
+        Ok(())
+    }
+
+    /// How many ranges there are.
+    pub fn len(&self) -> usize
+        ensures { result ≡ length (ranges_of self.now) }
+    {
+        self.data.len()
+    }
+
+    /// The range at a place, counted from 0. None past the last.
+    pub fn get(&self, place: usize) -> Option<&RangeDatum>
+        ensures { option_copied result ≡ slice_get (ranges_of self.now) place }
+    {
+        self.data.get(place)
+    }
+
+    /// The ranges.
+    pub fn as_slice(&self) -> &[RangeDatum]
+        ensures { result.now ≡ ranges_of self.now }
     {
         self.data.as_slice()
     }

@@ -1,7 +1,8 @@
 //! The cells of a COPY row by the types of their columns: what they are read as, how values are written, how many bytes
 //! the canonical form has, and the canonical form of a cell written without making its value. A cell is null or the
 //! bytes of a field. Of the types of `PgType` those have values here that have a spelling in the table of scalar types
-//! (`specs/Spellings.antt`), and nullable, array and named types over one that has values.
+//! (`specs/Spellings.antt`), ranges and multiranges over those that PostgreSQL has ranges over, and nullable, array and
+//! named types over one that has values.
 #![tactic(auto)]
 
 mod byte_list;
@@ -9,9 +10,11 @@ mod datum;
 mod digit_list;
 pub mod laws;
 mod measure;
+mod multirange;
 mod network;
 mod piece;
 mod plain;
+mod range;
 mod read;
 mod rewrite;
 mod sizes;
@@ -20,7 +23,7 @@ mod value_sizes;
 mod write;
 
 pub use byte_list::ByteList;
-pub use datum::{Datum, DatumList};
+pub use datum::{BoundDatum, Datum, DatumList, RangeDatum, RangeList};
 pub use digit_list::DigitList;
 pub use measure::{MeasureFault, measure_cell};
 pub use plain::PlainCell;

@@ -12,8 +12,10 @@ ghost use Rattle.pgw_cell.specs.Cells.{Spells, Fits, canonical_cell, read_value}
 ghost use Rattle.pgw_cell.specs.Written.{HasRoom, Appends, cells_read, cells_written, with_nulls};
 
 use crate::measure::is_of_bytes;
+use crate::multirange::push_multirange;
 use crate::piece::{are_bytes, written};
 use crate::plain::plain_elements;
+use crate::range::push_range;
 use pgw_meta::{FoundOids, PgType, oid_of};
 use pgw_nested::{ArrayPieces, close_length, place_array, place_length};
 use pgw_wire::{ByteBuffer, RawCell};
@@ -79,6 +81,8 @@ fn push_piece(t: &PgType, piece: &[u8], found: &FoundOids, out: &mut ByteBuffer)
     match t {
         PgType::Nullable(part) | PgType::Named(_, part) => push_piece(part, piece, found, out),
         PgType::Array(element) => push_array(element, piece, found, out),
+        PgType::Range(part) => push_range(part, piece, out),
+        PgType::Multirange(part) => push_multirange(part, piece, out),
         _ => match written(t, piece) {
             Ok(written) => {
                 out.push_reserved(&(written.len() as u32).to_be_bytes());

@@ -9,8 +9,10 @@ ghost use Rattle.pgw_cell.specs.Pieces.{piece_size, read_piece};
 ghost use Rattle.pgw_cell.specs.Cells.{canonical_size, read_value};
 ghost use Rattle.pgw_cell.specs.Written.{counted, size_read, cells_read, sizes_read};
 
+use crate::multirange::sized_multirange;
 use crate::piece::{are_bytes, written};
 use crate::plain::plain_elements;
+use crate::range::sized_range;
 use pgw_meta::PgType;
 use pgw_nested::ArrayPieces;
 use pgw_wire::{Break, RawCell, SqlError};
@@ -52,6 +54,8 @@ pub(crate) fn sized(t: &PgType, piece: &[u8]) -> Result<usize, Break>
     match t {
         PgType::Nullable(part) | PgType::Named(_, part) => sized(part, piece),
         PgType::Array(element) => sized_array(element, piece),
+        PgType::Range(part) => sized_range(part, piece),
+        PgType::Multirange(part) => sized_multirange(part, piece),
         _ => match written(t, piece) {
             Ok(written) => Ok(written.len().min(MANY)),
             Err(kind) => Err(kind),
