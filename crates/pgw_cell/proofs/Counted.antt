@@ -1,13 +1,13 @@
 -- How many bytes pieces and cells are written as, as they are counted.
-use Rattle.std.proofs.Common.{◌≡◌, ◌≤◌, ◌+◌, ℕ, List, [], length, Result, Ok, Err, Box, Global, refl, sym, ap, ◌∙◌, arith}
+use Rattle.std.proofs.Common.{◌≡◌, ◌≤◌, ◌+◌, ℕ, List, [], length, None, Result, Ok, Err, Box, Global, refl, sym, ap, ◌∙◌, arith}
 use Rattle.std.specs.Prelude.{⊤}
 use Rattle.pgw_wire.specs.declared.kind.Break.{Break}
 use Rattle.pgw_wire.specs.declared.sql_error.SqlError.{SqlError}
-use Rattle.pgw_meta.specs.Shape.{Scalar, Shape, scalar, nullable, array, named}
+use Rattle.pgw_meta.specs.Shape.{Scalar, Shape, scalar, nullable, array, range, multirange, named}
 use Rattle.pgw_meta.specs.Types.{shape}
 use Rattle.pgw_meta.specs.declared.key.TypeKey.{TypeKey}
-use Rattle.pgw_meta.specs.declared.types.PgType.{PgType, Nullable, Array, Named}
-use Rattle.pgw_meta.specs.declared.types.PgType.TheVariants.{Nullable', Array', Named'}
+use Rattle.pgw_meta.specs.declared.types.PgType.{PgType, Nullable, Array, Range, Multirange, Named}
+use Rattle.pgw_meta.specs.declared.types.PgType.TheVariants.{Int4, Int8, Date, Timestamp, Timestamptz, Numeric, Nullable', Array', Range', Multirange', Named'}
 use Rattle.pgw_scalar.proofs.Readers.{IsBytes, ok_is, err_is, never_both}
 use Rattle.pgw_nested.specs.Array.{Elements, BeginsArray, BeginsNoArray, kind_named}
 use Rattle.pgw_nested.specs.Reading.{◌>>=◌}
@@ -17,27 +17,49 @@ use Rattle.pgw_cell.specs.Spellings.{spelling, read_as}
 use Rattle.pgw_cell.specs.Arrays.{frames_size}
 use Rattle.pgw_cell.specs.Pieces.{HasPiece, piece_size, read_piece}
 use Rattle.pgw_cell.specs.Cells.{canonical_size}
-use Rattle.pgw_cell.specs.Written.{canonical_read, counted, size_read, cells_read, sizes_read}
+use Rattle.pgw_cell.specs.Written.{canonical_read, default_bytes, counted, size_read, cells_read, sizes_read}
 use Rattle.pgw_cell.proofs.Spellings.{spelling_whole}
 use Rattle.pgw_cell.proofs.ArrayPieces.{listed_values}
 use Rattle.pgw_cell.proofs.Elements.{then_value}
 use Rattle.pgw_cell.proofs.Pieces.{piece_told}
 
-abbrev boxed : Box (Unit {0}) Global → PgType → Box PgType Global
+abbrev pub boxed : Box (Unit {0}) Global → PgType → Box PgType Global
 boxed p t = record { ptr = p.ptr; alloc = p.alloc; value = t }
 
--- The type is neither nullable nor an array nor named.
+-- The type is neither nullable nor an array, a range, a multirange nor named.
 abbrev pub IsLeaf : Shape → Type 0
 IsLeaf (nullable t) = ⊥
 IsLeaf (array t) = ⊥
+IsLeaf (range t) = ⊥
+IsLeaf (multirange t) = ⊥
 IsLeaf (named k t) = ⊥
 IsLeaf _ = ⊤
 
-pub is_leaf : (t : PgType) → ((x : Box PgType Global) → t ≡ Nullable x → ⊥) → ((k : TypeKey) (x : Box PgType Global) → t ≡ Named k x → ⊥) → ((x : Box PgType Global) → t ≡ Array x → ⊥) → IsLeaf (shape t)
-is_leaf (Nullable' p u) a b c = absurd (a (boxed p u) refl)
-is_leaf (Named' k p u) a b c = absurd (b k (boxed p u) refl)
-is_leaf (Array' p u) a b c = absurd (c (boxed p u) refl)
-is_leaf _ a b c = tt
+-- What is known of a type that is none of these.
+pub record IsNoOther (t : PgType) : Type 0 where
+  pub nullable : (x : Box PgType Global) → t ≡ Nullable x → ⊥
+  pub named : (k : TypeKey) (x : Box PgType Global) → t ≡ Named k x → ⊥
+  pub array : (x : Box PgType Global) → t ≡ Array x → ⊥
+  pub range : (x : Box PgType Global) → t ≡ Range x → ⊥
+  pub multirange : (x : Box PgType Global) → t ≡ Multirange x → ⊥
+
+pub is_leaf : (t : PgType) → IsNoOther t → IsLeaf (shape t)
+is_leaf (Nullable' p u) h = absurd (h.nullable (boxed p u) refl)
+is_leaf (Named' k p u) h = absurd (h.named k (boxed p u) refl)
+is_leaf (Array' p u) h = absurd (h.array (boxed p u) refl)
+is_leaf (Range' p u) h = absurd (h.range (boxed p u) refl)
+is_leaf (Multirange' p u) h = absurd (h.multirange (boxed p u) refl)
+is_leaf _ h = tt
+
+-- A type that is none of those that PostgreSQL has ranges over has no default.
+pub no_ranges : (t : PgType) → (t ≡ Int4 → ⊥) → (t ≡ Int8 → ⊥) → (t ≡ Date → ⊥) → (t ≡ Timestamp → ⊥) → (t ≡ Timestamptz → ⊥) → (t ≡ Numeric → ⊥) → None ≡ default_bytes (shape t)
+no_ranges Int4 a b c d e f = absurd (a refl)
+no_ranges Int8 a b c d e f = absurd (b refl)
+no_ranges Date a b c d e f = absurd (c refl)
+no_ranges Timestamp a b c d e f = absurd (d refl)
+no_ranges Timestamptz a b c d e f = absurd (e refl)
+no_ranges Numeric a b c d e f = absurd (f refl)
+no_ranges _ a b c d e f = refl
 
 -- What a piece is written as again has the size of the value that it is read as.
 scalar_sizes : (s : Scalar) (p : List ℕ) → IsBytes p → size_read length (canonical_read (scalar s) p) ≡ size_read (spelling s).size ((spelling s).read p)
@@ -53,6 +75,8 @@ pub leaf_sizes : (t : Shape) (p : List ℕ) → IsLeaf t → IsBytes p → size_
 leaf_sizes (scalar s) p leaf bytes = scalar_sizes s p bytes
 leaf_sizes (nullable t) p leaf bytes = absurd leaf
 leaf_sizes (array t) p leaf bytes = absurd leaf
+leaf_sizes (range t) p leaf bytes = absurd leaf
+leaf_sizes (multirange t) p leaf bytes = absurd leaf
 leaf_sizes (named k t) p leaf bytes = absurd leaf
 leaf_sizes _ p leaf bytes = refl
 

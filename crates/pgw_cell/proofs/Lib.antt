@@ -7,13 +7,16 @@ pub mod Pieces
 pub mod Lists
 pub mod Elements
 pub mod Counted
+pub mod RangeBounds
 pub mod Reading
 pub mod Written
 pub mod Numerics
 pub mod Measured
+pub mod RangeAnswers
 pub mod Rewriting
 pub mod Writing
 pub mod PlainFields
+pub mod Multiranges
 pub mod ReadCells
 pub mod ReadArrays
 pub mod WroteCells

@@ -1,5 +1,5 @@
 -- Fields that are canonical as they stand.
-use Rattle.std.proofs.Common.{◌≡◌, ◌⊎◌, inl, inr, ℕ, zero, suc, ◌+◌, ◌<◌, ◌≤◌, ◌-◌, List, [], ◌∷◌, ◌++◌, length, get_or, take, drop, true, false, None, Some, Result, Ok, Err, w16, w32, w64, refl, sym, ap, ◌∙◌, arith, lit<, subst, append-nil, append_assoc, length-append, map, Bool, ◌||◌}
+use Rattle.std.proofs.Common.{◌≡◌, ◌⊎◌, inl, inr, ℕ, zero, suc, ◌+◌, ◌<◌, ◌≤◌, ◌-◌, List, [], ◌∷◌, ◌++◌, length, get_or, take, drop, true, false, None, Some, Result, Ok, Err, Box, Global, w16, w32, w64, refl, sym, ap, ◌∙◌, arith, lit<, subst, append-nil, append_assoc, length-append, map, Bool, ◌||◌}
 use Rattle.std.specs.Prelude.{◌==◌, ◌^◌, not}
 use Rattle.std.specs.Result.{is_ok}
 use Rattle.pgw_wire.specs.declared.kind.Break.{Break}
@@ -26,7 +26,11 @@ use Rattle.pgw_wire.specs.Room.{Room}
 use Rattle.pgw_scalar.proofs.Readers.{ok_is}
 use Rattle.pgw_cell.specs.Cells.{HasType, Spells, canonical_cell, canonical_size}
 use Rattle.pgw_nested.proofs.Beginnings.{head_is, head_length, rest_bytes}
-use Rattle.pgw_cell.proofs.Counted.{IsLeaf}
+use Rattle.pgw_cell.proofs.Counted.{boxed}
+use Rattle.pgw_meta.specs.Types.{shape}
+use Rattle.pgw_meta.specs.declared.key.TypeKey.{TypeKey}
+use Rattle.pgw_meta.specs.declared.types.PgType.{PgType, Nullable, Array, Named}
+use Rattle.pgw_meta.specs.declared.types.PgType.TheVariants.{Nullable', Array', Named'}
 use Rattle.pgw_cell.specs.Plain.{plain_element, no_element, IsPlainElement, PassesElement, ArePlainElements, PassesElements, element_kept, PassesArray, IsPlainField, IsSomeNetwork, scalar_rule, plain_rule, IsPlainCellOf, Passes, IsPassedBefore}
 use Rattle.pgw_cell.specs.declared.plain.Rule.{Rule}
 use Rattle.pgw_cell.specs.declared.plain.Rule.TheVariants.{Truth, Array as rule_array}
@@ -251,11 +255,11 @@ pub null_element : (e : PlainElement) (bytes rest : List ℕ) → (e.nullable �
 null_element e bytes rest h = record { cell = None; pass = h.0; is = h.1; nulls = refl }
 
 -- What is kept of the elements of a type that is no array.
-pub leaf_element : (known : Known) (t : Shape) → IsLeaf t → no_element ≡ plain_element known t
-leaf_element known (nullable t) leaf = absurd leaf
-leaf_element known (array t) leaf = absurd leaf
-leaf_element known (named k t) leaf = absurd leaf
-leaf_element known _ leaf = refl
+pub other_element : (known : Known) (t : PgType) → ((x : Box PgType Global) → t ≡ Nullable x → ⊥) → ((k : TypeKey) (x : Box PgType Global) → t ≡ Named k x → ⊥) → ((x : Box PgType Global) → t ≡ Array x → ⊥) → no_element ≡ plain_element known (shape t)
+other_element known (Nullable' p u) a b c = absurd (a (boxed p u) refl)
+other_element known (Named' k p u) a b c = absurd (b k (boxed p u) refl)
+other_element known (Array' p u) a b c = absurd (c (boxed p u) refl)
+other_element known _ a b c = refl
 
 -- The numbers in front of the elements of an array.
 pub array_front : (piece r s t u v : List ℕ) (d f o n l named_oid : ℕ) → piece ≡ to_be_bytes w32 d ++ r → r ≡ to_be_bytes w32 f ++ s → s ≡ to_be_bytes w32 o ++ t → t ≡ to_be_bytes w32 n ++ u → u ≡ to_be_bytes w32 l ++ v

@@ -1,5 +1,5 @@
 -- Pieces of ranges and of multiranges, where the pieces of their bounds are read and written as is told.
-use Rattle.std.proofs.Common.{◌≡◌, ◌≤◌, ◌<◌, ◌+◌, ◌^◌, ℕ, false, List, [], ◌∷◌, length, map, Option, None, Some, w32, refl, sym, ap, ◌∙◌, subst, arith}
+use Rattle.std.proofs.Common.{rules, ◌≡◌, ◌≤◌, ◌<◌, ◌+◌, ◌^◌, ℕ, pos, false, List, [], ◌∷◌, length, map, Option, None, Some, w32, refl, sym, ap, ◌∙◌, subst, arith}
 use Rattle.std.specs.List.{AllByRecursion}
 use Rattle.std.specs.Int.{to_be_bytes}
 use Rattle.std.specs.Range.Bound.{bound_map}
@@ -153,12 +153,12 @@ module _ (part : Spelling) (w : IsWrittenSpelling part) where
 
 -- What an empty range excludes is a value of the type.
 default_has : (s : Scalar) (d : Value) → scalar_default s ≡ Some d → (spelling s).Has d
-default_has int4 d is = subst (λ (v : Value). (spelling int4).Has v) cc (0, refl, search rules)
-default_has int8 d is = subst (λ (v : Value). (spelling int8).Has v) cc (0, refl, search rules)
-default_has numeric d is = subst (λ (v : Value). (spelling numeric).Has v) cc (not_a_number, refl, search rules)
-default_has date d is = subst (λ (v : Value). (spelling date).Has v) cc (0, refl, search rules)
-default_has timestamp d is = subst (λ (v : Value). (spelling timestamp).Has v) cc (0, refl, search rules)
-default_has timestamptz d is = subst (λ (v : Value). (spelling timestamptz).Has v) cc (0, refl, search rules)
+default_has int4 d is = let same : natural 0 ≡ d = cc in subst (λ (v : Value). (spelling int4).Has v) same (pos 0, refl, search rules)
+default_has int8 d is = let same : natural 0 ≡ d = cc in subst (λ (v : Value). (spelling int8).Has v) same (pos 0, refl, search rules)
+default_has numeric d is = let same : numeric_value not_a_number ≡ d = cc in subst (λ (v : Value). (spelling numeric).Has v) same (not_a_number, refl, search rules)
+default_has date d is = let same : natural 0 ≡ d = cc in subst (λ (v : Value). (spelling date).Has v) same (pos 0, refl, search rules)
+default_has timestamp d is = let same : natural 0 ≡ d = cc in subst (λ (v : Value). (spelling timestamp).Has v) same (pos 0, refl, search rules)
+default_has timestamptz d is = let same : natural 0 ≡ d = cc in subst (λ (v : Value). (spelling timestamptz).Has v) same (pos 0, refl, search rules)
 default_has _ d is = absurd cc
 
 over_told : (part : Spelling) (default : Option Value) → IsToldSpelling part → ((d : Value) → default ≡ Some d → part.Has d) → IsToldSpelling (ranges_over part default)

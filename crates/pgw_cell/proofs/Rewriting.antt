@@ -7,7 +7,7 @@ use Rattle.pgw_wire.specs.Room.{Room, overwritten}
 use Rattle.pgw_wire.specs.declared.kind.Break.{Break}
 use Rattle.pgw_meta.specs.Known.{Known}
 use Rattle.pgw_meta.specs.NamedOids.{oids_of}
-use Rattle.pgw_meta.specs.Shape.{Shape, scalar, nullable, array, named}
+use Rattle.pgw_meta.specs.Shape.{Shape, scalar, nullable, array, range, multirange, named}
 use Rattle.pgw_scalar.proofs.Readers.{IsBytes, ok_is, never_both}
 use Rattle.pgw_nested.specs.Frames.{frames}
 use Rattle.pgw_nested.specs.Array.{Elements, BeginsArray, is_null, any_null, flags_of, array_head, array_bytes}
@@ -66,6 +66,8 @@ leaf_again : (known : Known) (t : Shape) (p : List ℕ) → IsLeaf t → canonic
 leaf_again known (scalar s) p leaf = refl
 leaf_again known (nullable t) p leaf = absurd leaf
 leaf_again known (array t) p leaf = absurd leaf
+leaf_again known (range t) p leaf = absurd leaf
+leaf_again known (multirange t) p leaf = absurd leaf
 leaf_again known (named k t) p leaf = absurd leaf
 leaf_again known _ p leaf = refl
 

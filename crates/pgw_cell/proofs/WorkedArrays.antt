@@ -116,5 +116,8 @@ too_long h = omega (arith, h)
 pub array_is_built : IsBuilt (nullable (array (nullable (named citext (scalar text)))))
 array_is_built = tt
 
-pub no_range_yet : IsBuilt (array (range (scalar int4))) → ⊥
-no_range_yet h = h
+pub array_of_ranges_is_built : IsBuilt (array (range (scalar int4)))
+array_of_ranges_is_built = refl
+
+pub no_range_of_texts : IsBuilt (array (range (scalar text))) → ⊥
+no_range_of_texts h = absurd (cc)

@@ -59,6 +59,10 @@ ranges_of l = (out-RangeList l).data
 abbrev pub value_of_range : RangeDatum → Value
 value_of_range r = range (bound_of r.lower) (bound_of r.upper)
 
+-- the values of a list of ranges
+abbrev pub range_values : RangeList → List Value
+range_values l = map value_of_range (ranges_of l)
+
 -- whether the bound has a value
 abbrev pub has_value : BoundValue → Bool
 has_value unbounded = false

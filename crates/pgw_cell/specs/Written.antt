@@ -12,7 +12,7 @@ use Rattle.pgw_meta.specs.Shape.{Scalar, Shape, scalar, nullable, named}
 use Rattle.pgw_scalar.specs.Leading.{bool_bytes}
 use Rattle.pgw_scalar.specs.Networks.{network_bytes, read_network}
 use Rattle.pgw_numeric.specs.Numeric.{not_a_number, numeric_bytes}
-use Rattle.pgw_cell.specs.Value.{Value, network}
+use Rattle.pgw_cell.specs.Value.{Value, network, BoundValue, bound_in}
 use Rattle.pgw_cell.specs.Spellings.{spelling, bytes_of_network, read_as}
 use Rattle.pgw_nested.specs.Array.{Elements, kind_named}
 use Rattle.pgw_nested.specs.Frames.{frames}
@@ -23,6 +23,7 @@ use Rattle.pgw_cell.specs.Nulls.{cell_by, read_by}
 use Rattle.pgw_cell.specs.Arrays.{frames_size}
 use Rattle.pgw_cell.specs.Ranges.{bound_cell, bound_cells, default_of, part_spelling, range_spelling, read_bounds}
 use Rattle.pgw_cell.specs.declared.range.CanonicalRange.{CanonicalRange}
+use Rattle.pgw_cell.specs.Pieces.{canonical_piece}
 use Rattle.pgw_cell.specs.Cells.{canonical_cell, canonical_size, read_value}
 use Rattle.pgw_cell.specs.declared.piece.Canonical.{Canonical}
 use Rattle.pgw_cell.specs.declared.piece.Canonical.TheVariants.{Truth, Bytes, NotANumber}
@@ -145,6 +146,10 @@ with_nulls null flags bytes = if null then overwritten bytes flags (to_be_bytes 
 -- the canonical cells of elements, by what was read of them
 abbrev pub cells_written : Known → Shape → List Value × List ℕ → List Cell
 cells_written known t x = map (canonical_cell known t) x.0
+
+-- the field that the value of a bound is written as
+abbrev pub written_bound : Known → Shape → BoundValue → List ℕ
+written_bound known t bound = bound_bytes (bound_cell (canonical_piece known t) (bound_in bound))
 
 -- the frames of ranges over a type, by what was read of them
 abbrev pub ranges_written : Shape → List Value × List ℕ → List ℕ

@@ -8,6 +8,7 @@ ghost use Rattle.pgw_cell.specs.Pieces.{piece_size, read_piece};
 ghost use Rattle.pgw_cell.specs.Cells.{canonical_size};
 ghost use Rattle.pgw_cell.specs.Written.{size_read, cells_read, sizes_read, ranges_written, HasRoom, Appends};
 
+use crate::piece::are_bytes;
 use crate::range::{push_range, sized_range};
 use crate::sizes::{add, break_of};
 use pgw_meta::PgType;
@@ -34,7 +35,10 @@ fn sized_ranges(part: &PgType, pieces: MultirangePieces<'_>) -> Result<usize, Br
     let mut total = 4;
     loop {
         match pieces.next_piece() {
-            Ok(Some(piece)) => total = add(total, sized_range(part, piece)?),
+            Ok(Some(piece)) => {
+                are_bytes(piece);
+                total = add(total, sized_range(part, piece)?);
+            }
             Ok(None) => return Ok(total),
             Err(error) => return Err(break_of(&error)),
         }
@@ -70,7 +74,10 @@ fn push_ranges(part: &PgType, pieces: MultirangePieces<'_>, out: &mut ByteBuffer
     let mut pieces = pieces;
     loop {
         match pieces.next_piece() {
-            Ok(Some(piece)) => push_range(part, piece, out),
+            Ok(Some(piece)) => {
+                are_bytes(piece);
+                push_range(part, piece, out);
+            }
             Ok(None) => return,
             Err(_) => unreachable!(),
         }

@@ -15,6 +15,11 @@ use pgw_wire::{Break, ByteBuffer};
 /// The field of what is not a number.
 pub(crate) const NOT_A_NUMBER: [u8; 8] = [0, 0, 0, 0, 0xc0, 0, 0, 0];
 
+/// The same, and those of a truth, where bytes are lent.
+const NAN: &[u8] = &NOT_A_NUMBER;
+const TRUE: &[u8] = &[1];
+const FALSE: &[u8] = &[0];
+
 /// What the value that a piece spells is written as.
 #[derive(Clone, Copy)]
 pub(crate) enum Canonical<'a> {
@@ -36,6 +41,18 @@ impl<'a> Canonical<'a> {
             Canonical::Truth(_) => 1,
             Canonical::Bytes(bytes) => bytes.len(),
             Canonical::NotANumber => NOT_A_NUMBER.len(),
+        }
+    }
+
+    /// These bytes.
+    pub(crate) fn bytes(self) -> &'a [u8]
+        ensures { result.now ≡ bytes_of self.entry }
+    {
+        match self {
+            Canonical::Truth(true) => TRUE,
+            Canonical::Truth(false) => FALSE,
+            Canonical::Bytes(bytes) => bytes,
+            Canonical::NotANumber => NAN,
         }
     }
 

@@ -1,31 +1,36 @@
-ghost use Rattle.std.specs.Prelude.{◌≡◌, ◌<◌, List, ℕ, Ok, Err, IfOk, IfErr, IsTrue, MatchResult};
+ghost use Rattle.std.specs.Prelude.{◌≡◌, ◌<◌, List, ℕ, Result, Ok, Err, IfOk, IfErr, IsTrue, MatchResult};
 ghost use Rattle.std.specs.Int.{w16, w32, w64, from_be_bytes, cast_signed};
 ghost use Rattle.pgw_wire.specs.Cell.{cell_of};
 ghost use Rattle.pgw_wire.specs.declared.kind.Break.{Break as Kind};
-ghost use Rattle.pgw_meta.specs.Shape.{array};
+ghost use Rattle.std.specs.declared.ops.Bound.{Bound};
+ghost use Rattle.pgw_meta.specs.Shape.{array, range, multirange};
 ghost use Rattle.pgw_meta.specs.Types.{shape};
 ghost use Rattle.pgw_nested.specs.Pieces.{elements_of};
+ghost use Rattle.pgw_nested.specs.RangePieces.{ranges_of};
 ghost use Rattle.pgw_scalar.specs.Sized.{read_sized};
 ghost use Rattle.pgw_scalar.specs.Leading.{read_bool, read_char, read_oid};
 ghost use Rattle.pgw_scalar.specs.Text.{read_text};
 ghost use Rattle.pgw_scalar.specs.Networks.{read_network};
 ghost use Rattle.pgw_time.specs.Interval.{read_interval};
 ghost use Rattle.pgw_numeric.specs.Numeric.{read_numeric};
-ghost use Rattle.pgw_cell.specs.Value.{Value, truth, number, natural, string, bytes, network, interval, numeric};
+ghost use Rattle.pgw_cell.specs.Value.{Value, truth, number, natural, string, bytes, network, interval, numeric, bound_value};
 ghost use Rattle.pgw_cell.specs.Built.{IsBuilt};
 ghost use Rattle.pgw_cell.specs.Spellings.{read_as};
+ghost use Rattle.pgw_cell.specs.Ranges.{HasBound, bound_cell, part_spelling};
 ghost use Rattle.pgw_cell.specs.Pieces.{read_piece};
 ghost use Rattle.pgw_cell.specs.Cells.{Spells, Breaks, read_value};
-ghost use Rattle.pgw_cell.specs.Data.{value_of, data_of, values_of, takes_memory, AnswersAs};
-ghost use Rattle.pgw_cell.specs.Written.{AreBytes, cells_read};
+ghost use Rattle.pgw_cell.specs.Data.{value_of, data_of, values_of, value_of_range, range_values, bound_of, has_value, takes_memory, AnswersBy, AnswersAs};
+ghost use Rattle.pgw_cell.specs.Written.{AreBytes, cell_of_bound, cells_read};
 
+use crate::multirange::sized_multirange;
 use crate::network::network_field;
-use crate::piece::are_bytes;
+use crate::piece::{Canonical, are_bytes};
+use crate::range::written_range;
 use crate::sizes::{is_nullable, sized_array};
-use crate::{ByteList, Datum, DatumList, DigitList};
+use crate::{BoundDatum, ByteList, Datum, DatumList, DigitList, RangeDatum, RangeList};
 use pgw_meta::deserialize::FromSql;
 use pgw_meta::{NameText, PgType};
-use pgw_nested::ArrayPieces;
+use pgw_nested::{ArrayPieces, MultirangePieces};
 use pgw_numeric::PgNumeric;
 use pgw_numeric::sql_types::Numeric;
 use pgw_time::PgInterval;
@@ -33,6 +38,7 @@ use pgw_time::sql_types::Interval;
 use pgw_wire::{Break, NoMemory as NoMemoryLeft, PgValue, RawCell, SqlError};
 use std::alloc::Global;
 use std::num::NonZeroU32;
+use std::ops::Bound;
 use thiserror::Error;
 
 /// Why no value was read from a cell.
@@ -239,6 +245,27 @@ fn read_numeric(alloc: Global, piece: &[u8]) -> Result<Datum, CellFault>
     }
 }
 
+/// The value in memory of its own.
+fn boxed(alloc: Global, value: Datum) -> Result<Box<Datum>, CellFault>
+    ensures ok { IfOk result (λ boxed. boxed.value ≡ value) }
+    ensures err { IfErr result (λ fault. fault ≡ CellFault.NoMemory) }
+{
+    match Box::new(alloc, value) {
+        Ok(boxed) => Ok(boxed),
+        Err(_) => Err(CellFault::NoMemory),
+    }
+}
+
+/// The range with these bounds.
+fn bounds(read: Result<RangeDatum, CellFault>) -> Result<Datum, CellFault>
+    ensures { (r : Result Value Kind) → AnswersBy value_of_range read r → AnswersAs result r }
+{
+    match read {
+        Ok(range) => Ok(Datum::Bounds(range)),
+        Err(fault) => Err(fault),
+    }
+}
+
 #[cycle(reading)]
 fn read_piece(alloc: Global, t: &PgType, piece: &[u8]) -> Result<Datum, CellFault>
     ensures { AnswersAs result (read_piece (shape t.now) piece.now) }
@@ -265,6 +292,8 @@ fn read_piece(alloc: Global, t: &PgType, piece: &[u8]) -> Result<Datum, CellFaul
         PgType::Numeric => read_numeric(alloc, piece),
         PgType::Nullable(part) | PgType::Named(_, part) => read_piece(alloc, part, piece),
         PgType::Array(element) => read_array(alloc, element, piece),
+        PgType::Range(part) => bounds(read_range(alloc, part, piece)),
+        PgType::Multirange(part) => read_multirange(alloc, part, piece),
         _ => Err(CellFault::Break(Break::Size)),
     }
 }
@@ -313,6 +342,89 @@ fn read_elements(
     }
 }
 
+/// The range over such a part that the piece spells. The piece is walked over first, so that memory is asked for only
+/// where it spells one.
+#[cycle(reading)]
+fn read_range(alloc: Global, part: &PgType, piece: &[u8]) -> Result<RangeDatum, CellFault>
+    ensures { AnswersBy value_of_range result (read_piece (range (shape part.now)) piece.now) }
+{
+    match written_range(part, piece) {
+        Ok(range) => {
+            let lower = read_bound(alloc, part, range.lower)?;
+            let upper = read_bound(alloc, part, range.upper)?;
+            Ok(RangeDatum { lower, upper })
+        }
+        Err(kind) => Err(CellFault::Break(kind)),
+    }
+}
+
+/// The bound whose value is written so.
+#[cycle(reading)]
+fn read_bound(
+    alloc: Global,
+    part: &PgType,
+    bound: Bound<Canonical<'_>>,
+) -> Result<BoundDatum, CellFault>
+    ensures { (b : Bound Value) → HasBound (part_spelling (shape part.now)).Has b
+        → cell_of_bound bound.entry ≡ bound_cell (part_spelling (shape part.now)).canonical b → MatchResult result
+        (λ d. bound_of d ≡ bound_value b) (λ fault. (fault ≡ CellFault.NoMemory) × IsTrue (has_value (bound_value b))) }
+{
+    match bound {
+        Bound::Unbounded => Ok(BoundDatum::Unbounded),
+        Bound::Included(value) => {
+            let value = read_piece(alloc, part, value.bytes())?;
+            Ok(BoundDatum::Included(boxed(alloc, value)?))
+        }
+        Bound::Excluded(value) => {
+            let value = read_piece(alloc, part, value.bytes())?;
+            Ok(BoundDatum::Excluded(boxed(alloc, value)?))
+        }
+    }
+}
+
+/// The multirange over such a part that the piece spells. As an array, the piece is walked over first.
+#[cycle(reading)]
+fn read_multirange(alloc: Global, part: &PgType, piece: &[u8]) -> Result<Datum, CellFault>
+    ensures { AnswersAs result (read_piece (multirange (shape part.now)) piece.now) }
+{
+    if let Err(kind) = sized_multirange(part, piece) {
+        return Err(CellFault::Break(kind));
+    }
+    match MultirangePieces::new(piece) {
+        Ok(pieces) => {
+            let list = read_ranges(alloc, part, pieces)?;
+            Ok(Datum::Ranges(list))
+        }
+        Err(_) => unreachable!(),
+    }
+}
+
+/// The ranges of a multirange, of which each is spelled.
+#[cycle(reading)]
+fn read_ranges(
+    alloc: Global,
+    part: &PgType,
+    pieces: MultirangePieces<'_>,
+) -> Result<RangeList, CellFault>
+    requires { (x : List Value × List ℕ) × (cells_read (range (shape part.now)) (ranges_of pieces) ≡ Ok x) }
+    ensures ok { IfOk result (λ list. (rest : List ℕ) × (cells_read (range (shape part.now)) (ranges_of pieces.entry)
+        ≡ Ok (range_values list, rest))) }
+    ensures err { IfErr result (λ fault. (fault ≡ CellFault.NoMemory) × (0 < (ranges_of pieces.entry).left)) }
+{
+    let mut pieces = pieces;
+    let mut list = RangeList::new(alloc);
+    loop {
+        match pieces.next_piece() {
+            Ok(Some(piece)) => {
+                let item = read_range(alloc, part, piece)?;
+                list.push(item)?;
+            }
+            Ok(None) => return Ok(list),
+            Err(_) => unreachable!(),
+        }
+    }
+}
+
 #[cycle(reading)]
 fn read(alloc: Global, t: &PgType, cell: RawCell<'_>) -> Result<Datum, CellFault>
     ensures value { AnswersAs result (read_value (shape t.now) (cell_of cell.entry)) }
@@ -334,9 +446,9 @@ fn read(alloc: Global, t: &PgType, cell: RawCell<'_>) -> Result<Datum, CellFault
 }
 
 /// The value that the cell spells. `Break` exactly where the cell breaks in this kind. `NoMemory` only where it spells
-/// a value that takes memory: a text, bytes, a network, a numeric that is a number, or an array with elements. So a cell
-/// that holds an array is walked over once before any memory is asked for, and none is asked for by the count that it
-/// states.
+/// a value that takes memory: a text, bytes, a network, a numeric that is a number, an array with elements, a range with a
+/// bound that has a value, or a multirange with ranges. So a cell that holds an array, a range or a multirange is walked
+/// over once before any memory is asked for, and none is asked for by the count that it states.
 pub fn read_cell(alloc: Global, t: &PgType, cell: RawCell<'_>) -> Result<Datum, CellFault>
     requires { IsBuilt (shape t.now) }
     ensures ok { IfOk result (λ value. Spells (shape t.now) (cell_of cell.entry) (value_of value)) }

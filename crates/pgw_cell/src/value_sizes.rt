@@ -1,17 +1,19 @@
-ghost use Rattle.std.specs.Prelude.{◌≡◌, ◌+◌};
+ghost use Rattle.std.specs.Prelude.{◌≡◌, ◌≤◌, ◌+◌, map};
 ghost use Rattle.std.specs.List.{AllByRecursion};
-ghost use Rattle.pgw_meta.specs.Shape.{array};
+ghost use Rattle.pgw_meta.specs.Shape.{array, range, multirange};
 ghost use Rattle.pgw_meta.specs.Types.{shape};
 ghost use Rattle.pgw_cell.specs.Spellings.{networks, numerics};
 ghost use Rattle.pgw_cell.specs.Arrays.{array_size, frames_size};
 ghost use Rattle.pgw_cell.specs.Pieces.{HasPiece, piece_size};
+ghost use Rattle.pgw_cell.specs.Ranges.{HasBound, bound_size};
 ghost use Rattle.pgw_cell.specs.Cells.{HasType, canonical_size};
-ghost use Rattle.pgw_cell.specs.Data.{value_of, values_of};
+ghost use Rattle.pgw_cell.specs.Value.{bound_in};
+ghost use Rattle.pgw_cell.specs.Data.{value_of, values_of, value_of_range, bound_of};
 ghost use Rattle.pgw_cell.specs.Written.{counted};
 
-use crate::Datum;
 use crate::sizes::{MANY, add};
 use crate::write::{bytes_of, text_of};
+use crate::{BoundDatum, Datum, RangeDatum};
 use pgw_meta::PgType;
 
 fn network_size(type_byte: u8, value: &Datum) -> usize
@@ -61,6 +63,8 @@ pub(crate) fn value_size(t: &PgType, value: &Datum) -> usize
         PgType::Numeric => numeric_size(value).min(MANY),
         PgType::Nullable(part) | PgType::Named(_, part) => value_size(part, value),
         PgType::Array(element) => array_size(element, value),
+        PgType::Range(part) => range_size(part, value),
+        PgType::Multirange(part) => multirange_size(part, value),
         _ => unreachable!(),
     }
 }
@@ -98,6 +102,66 @@ pub(crate) fn items_size(element: &PgType, items: &[Datum]) -> usize
     let mut total = 20;
     for item in items {
         total = add(total, cell_size(element, item));
+    }
+    total
+}
+
+/// The same of a range over such a part.
+#[cycle(value_sizes)]
+fn range_size(part: &PgType, value: &Datum) -> usize
+    requires { HasPiece (range (shape part.now)) (value_of value.now) }
+    ensures { result ≡ counted (piece_size (range (shape part.now)) (value_of value.now)) }
+{
+    match value {
+        Datum::Bounds(bounds) => bounds_size(part, bounds),
+        _ => unreachable!(),
+    }
+}
+
+/// How many bytes the range with these bounds has.
+#[cycle(value_sizes)]
+pub(crate) fn bounds_size(part: &PgType, bounds: &RangeDatum) -> usize
+    requires { HasPiece (range (shape part.now)) (value_of_range bounds.now) }
+    ensures { result ≡ counted (piece_size (range (shape part.now)) (value_of_range bounds.now)) }
+{
+    (1 + value_bound_size(part, &bounds.lower) + value_bound_size(part, &bounds.upper)).min(MANY)
+}
+
+/// How many bytes the field of a bound's value has, as they are counted.
+#[cycle(value_sizes)]
+fn value_bound_size(part: &PgType, bound: &BoundDatum) -> usize
+    requires { HasBound (HasPiece (shape part.now)) (bound_in (bound_of bound.now)) }
+    ensures value { counted result ≡ counted (bound_size (piece_size (shape part.now)) (bound_in (bound_of bound.now))) }
+    ensures few { result ≤ 4294967300 }
+{
+    match bound {
+        BoundDatum::Unbounded => 0,
+        BoundDatum::Included(value) => 4 + value_size(part, value),
+        BoundDatum::Excluded(value) => 4 + value_size(part, value),
+    }
+}
+
+/// How many bytes the canonical piece of a multirange over such a part has, as they are counted.
+#[cycle(value_sizes)]
+fn multirange_size(part: &PgType, value: &Datum) -> usize
+    requires { HasPiece (multirange (shape part.now)) (value_of value.now) }
+    ensures { result ≡ counted (piece_size (multirange (shape part.now)) (value_of value.now)) }
+{
+    match value {
+        Datum::Ranges(list) => ranges_size(part, list.as_slice()),
+        _ => unreachable!(),
+    }
+}
+
+/// How many bytes the multirange of these ranges has.
+#[cycle(value_sizes)]
+pub(crate) fn ranges_size(part: &PgType, ranges: &[RangeDatum]) -> usize
+    requires { AllByRecursion (HasType (range (shape part.now))) (map value_of_range ranges.now) }
+    ensures { result ≡ counted (4 + frames_size (canonical_size (range (shape part.now))) (map value_of_range ranges.now)) }
+{
+    let mut total = 4;
+    for bounds in ranges {
+        total = add(total, bounds_size(part, bounds));
     }
     total
 }

@@ -2,27 +2,31 @@ ghost use Rattle.std.specs.Prelude.{◌≡◌, ◌↔◌, ◌<◌, ◌≤◌, �
 ghost use Rattle.pgw_wire.specs.Cell.{frame};
 ghost use Rattle.std.specs.List.{AllByRecursion};
 ghost use Rattle.pgw_meta.specs.NamedOids.{known_of, oids_of};
-ghost use Rattle.pgw_meta.specs.Shape.{array};
+ghost use Rattle.pgw_meta.specs.Shape.{array, range, multirange};
 ghost use Rattle.pgw_nested.specs.Array.{is_null, any_null, array_bytes};
 ghost use Rattle.pgw_nested.specs.Frames.{frames};
+ghost use Rattle.pgw_nested.specs.Multirange.{multirange_bytes};
+ghost use Rattle.pgw_nested.specs.RangeWritten.{bound_of_kind};
 ghost use Rattle.pgw_cell.specs.Nulls.{unless_null};
 ghost use Rattle.pgw_meta.specs.Types.{shape};
 ghost use Rattle.pgw_time.specs.Interval.{Interval, interval_bytes};
 ghost use Rattle.pgw_numeric.specs.Numeric.{number_sign, header_bytes, digit_bytes, field_bytes};
 ghost use Rattle.pgw_numeric.specs.Field.{bytes_of_header};
-ghost use Rattle.pgw_cell.specs.Value.{truth, number, bytes, string, interval};
+ghost use Rattle.pgw_cell.specs.Value.{truth, number, bytes, string, interval, bound_in};
 ghost use Rattle.pgw_cell.specs.Spellings.{networks, numerics, bytes_of_interval};
 ghost use Rattle.pgw_cell.specs.Pieces.{HasPiece, canonical_piece};
 ghost use Rattle.pgw_cell.specs.Cells.{HasType, Fits, canonical_cell};
-ghost use Rattle.pgw_cell.specs.Data.{value_of, values_of};
+ghost use Rattle.pgw_cell.specs.Ranges.{HasBound};
+ghost use Rattle.pgw_cell.specs.Data.{value_of, values_of, value_of_range, bound_of};
+ghost use Rattle.pgw_cell.specs.Written.{kind_of_bound, written_bound};
 ghost use Rattle.pgw_cell.specs.Wrote.{Wrote, Began};
 
-use crate::Datum;
 use crate::piece::NOT_A_NUMBER;
 use crate::rewrite::{NULL, either, say_nulls};
-use crate::value_sizes::items_size;
+use crate::value_sizes::{bounds_size, items_size, ranges_size};
+use crate::{BoundDatum, Datum, RangeDatum};
 use pgw_meta::{FoundOids, PgType, oid_of};
-use pgw_nested::place_array;
+use pgw_nested::{BoundKind, place_array, place_range};
 use pgw_numeric::field::{Header, Sign};
 use pgw_wire::{ByteBuffer, NoMemory as NoMemoryLeft};
 use thiserror::Error;
@@ -270,6 +274,8 @@ fn write_piece(
             part, value, found, field_max, out,
         ),
         PgType::Array(element) => write_array(element, value, found, field_max, out),
+        PgType::Range(part) => write_range(part, value, found, field_max, out),
+        PgType::Multirange(part) => write_multirange(part, value, found, field_max, out),
         _ => unreachable!(),
     }
 }
@@ -346,6 +352,161 @@ fn write_items(element: &PgType, items: &[Datum], found: &FoundOids, out: &mut B
         }
     }
     null
+}
+
+/// Appends the field of a range over such a part.
+#[cycle(writing)]
+fn write_range(
+    part: &PgType,
+    value: &Datum,
+    found: &FoundOids,
+    field_max: u32,
+    out: &mut ByteBuffer,
+) -> Result<(), WriteCellFault>
+    requires has { HasPiece (range (shape part.now)) (value_of value.now) }
+    requires max { field_max ≤ 2147483647 }
+    ensures { Wrote field_max (Some (canonical_piece (known_of found.now) (range (shape part.now)) (value_of value.now)))
+        result out.old out.new }
+{
+    match value {
+        Datum::Bounds(bounds) => write_bounds(part, bounds, found, field_max, out),
+        _ => unreachable!(),
+    }
+}
+
+/// Of what kind a bound is.
+fn kind_of(bound: &BoundDatum) -> BoundKind
+    ensures { bound_of_kind result ≡ kind_of_bound (bound_in (bound_of bound.now)) }
+{
+    match bound {
+        BoundDatum::Unbounded => BoundKind::Unbounded,
+        BoundDatum::Included(_) => BoundKind::Included,
+        BoundDatum::Excluded(_) => BoundKind::Excluded,
+    }
+}
+
+/// Appends the field of the range with these bounds. Its size is known before, so that memory is asked for once.
+#[cycle(writing)]
+fn write_bounds(
+    part: &PgType,
+    bounds: &RangeDatum,
+    found: &FoundOids,
+    field_max: u32,
+    out: &mut ByteBuffer,
+) -> Result<(), WriteCellFault>
+    requires has { HasPiece (range (shape part.now)) (value_of_range bounds.now) }
+    requires max { field_max ≤ 2147483647 }
+    ensures { Wrote field_max (Some (canonical_piece (known_of found.now) (range (shape part.now)) (value_of_range bounds.now)))
+        result out.old out.new }
+{
+    begin_field(bounds_size(part, bounds), field_max, out)?;
+    place_range(out, kind_of(&bounds.lower), kind_of(&bounds.upper));
+    write_bound(part, &bounds.lower, found, out);
+    write_bound(part, &bounds.upper, found, out);
+    Ok(())
+}
+
+/// Appends the field of a bound's value into the room that was made for it, and nothing where it has none.
+#[cycle(writing)]
+fn write_bound(part: &PgType, bound: &BoundDatum, found: &FoundOids, out: &mut ByteBuffer)
+    requires has { HasBound (HasPiece (shape part.now)) (bound_in (bound_of bound.now)) }
+    requires room { length (written_bound (known_of found.now) (shape part.now) (bound_of bound.now)) ≤ out.old.spare }
+    requires small { length (written_bound (known_of found.now) (shape part.now) (bound_of bound.now)) ≤ 2147483647 }
+    ensures bytes { out.new.bytes ≡ out.old.bytes ++ written_bound (known_of found.now) (shape part.now) (bound_of bound.now) }
+    ensures spare { out.old.spare
+        ≤ out.new.spare + length (written_bound (known_of found.now) (shape part.now) (bound_of bound.now)) }
+{
+    match bound {
+        BoundDatum::Unbounded => {}
+        BoundDatum::Included(value) => write_whole(part, value, found, out),
+        BoundDatum::Excluded(value) => write_whole(part, value, found, out),
+    }
+}
+
+/// Appends the field of a value that is not null into the room that was made for it.
+#[cycle(writing)]
+fn write_whole(t: &PgType, value: &Datum, found: &FoundOids, out: &mut ByteBuffer)
+    requires has { HasPiece (shape t.now) (value_of value.now) }
+    requires room { length (frame (Some (canonical_piece (known_of found.now) (shape t.now) (value_of value.now))))
+        ≤ out.old.spare }
+    requires small { length (frame (Some (canonical_piece (known_of found.now) (shape t.now) (value_of value.now))))
+        ≤ 2147483647 }
+    ensures bytes { out.new.bytes ≡ out.old.bytes
+        ++ frame (Some (canonical_piece (known_of found.now) (shape t.now) (value_of value.now))) }
+    ensures spare { out.old.spare ≤ out.new.spare
+        + length (frame (Some (canonical_piece (known_of found.now) (shape t.now) (value_of value.now)))) }
+{
+    match write_piece(t, value, found, 2147483647, out) {
+        Ok(()) => {}
+        Err(_) => unreachable!(),
+    }
+}
+
+/// Appends the field of a multirange over such a part.
+#[cycle(writing)]
+fn write_multirange(
+    part: &PgType,
+    value: &Datum,
+    found: &FoundOids,
+    field_max: u32,
+    out: &mut ByteBuffer,
+) -> Result<(), WriteCellFault>
+    requires has { HasPiece (multirange (shape part.now)) (value_of value.now) }
+    requires max { field_max ≤ 2147483647 }
+    ensures { Wrote field_max (Some (canonical_piece (known_of found.now) (multirange (shape part.now)) (value_of value.now)))
+        result out.old out.new }
+{
+    match value {
+        Datum::Ranges(list) => write_ranges(part, list.as_slice(), found, field_max, out),
+        _ => unreachable!(),
+    }
+}
+
+/// Appends the field of the multirange of these ranges. Its size is known before, so that memory is asked for once.
+#[cycle(writing)]
+fn write_ranges(
+    part: &PgType,
+    ranges: &[RangeDatum],
+    found: &FoundOids,
+    field_max: u32,
+    out: &mut ByteBuffer,
+) -> Result<(), WriteCellFault>
+    requires has { AllByRecursion (HasType (range (shape part.now))) (map value_of_range ranges.now) }
+    requires max { field_max ≤ 2147483647 }
+    ensures { Wrote field_max (Some (multirange_bytes
+        (map (canonical_cell (known_of found.now) (range (shape part.now))) (map value_of_range ranges.now))))
+        result out.old out.new }
+{
+    begin_field(ranges_size(part, ranges), field_max, out)?;
+    out.push_reserved(&(ranges.len() as u32).to_be_bytes());
+    write_each_range(part, ranges, found, out);
+    Ok(())
+}
+
+/// Appends the fields of the ranges of a multirange into the room that was made for them.
+#[cycle(writing)]
+fn write_each_range(
+    part: &PgType,
+    ranges: &[RangeDatum],
+    found: &FoundOids,
+    out: &mut ByteBuffer,
+)
+    requires has { AllByRecursion (HasType (range (shape part.now))) (map value_of_range ranges.now) }
+    requires room { length (frames (map (canonical_cell (known_of found.now) (range (shape part.now)))
+        (map value_of_range ranges.now))) ≤ out.old.spare }
+    requires small { length (frames (map (canonical_cell (known_of found.now) (range (shape part.now)))
+        (map value_of_range ranges.now))) ≤ 2147483647 }
+    ensures bytes { out.new.bytes ≡ out.old.bytes ++ frames (map (canonical_cell (known_of found.now)
+        (range (shape part.now))) (map value_of_range ranges.now)) }
+    ensures spare { out.old.spare ≤ out.new.spare + length (frames (map (canonical_cell (known_of found.now)
+        (range (shape part.now))) (map value_of_range ranges.now))) }
+{
+    for bounds in ranges {
+        match write_bounds(part, bounds, found, 2147483647, out) {
+            Ok(()) => {}
+            Err(_) => unreachable!(),
+        }
+    }
 }
 
 fn write_null(field_max: u32, out: &mut ByteBuffer) -> Result<(), WriteCellFault>

@@ -195,7 +195,7 @@ push_piece-overflow_cast-len t c =
     let known = known_of c.args.found.now in
     let s = shape c.args.t.now in
     let b = bytes_of c.in-Ok.written in
-    let leaf = is_leaf c.args.t.now c.in_default.not-Nullable c.in_default.not-Named c.in_default.not-Array in
+    let leaf = is_leaf c.args.t.now (record { nullable = c.in_default.not-Nullable; named = c.in_default.not-Named; array = c.in_default.not-Array; range = c.in_default.not-Range; multirange = c.in_default.not-Multirange }) in
     let long = field_length b (canonical_piece known s c.requires.value) (leaf_bytes known s c.args.piece.now c.requires.value b leaf c.requires.reads (sym (ap written_bytes c.in-Ok.is) ∙ c.written.ensures)) in
     record { fits = omega (arith, long, c.requires.small, c.len.ensures) }
 
@@ -204,13 +204,13 @@ push_piece-push_reserved-requires-in-Ok t c =
     let known = known_of c.args.found.now in
     let s = shape c.args.t.now in
     let b = bytes_of c.in-Ok.written in
-    let leaf = is_leaf c.args.t.now c.in_default.not-Nullable c.in_default.not-Named c.in_default.not-Array in
+    let leaf = is_leaf c.args.t.now (record { nullable = c.in_default.not-Nullable; named = c.in_default.not-Named; array = c.in_default.not-Array; range = c.in_default.not-Range; multirange = c.in_default.not-Multirange }) in
     let long = field_length b (canonical_piece known s c.requires.value) (leaf_bytes known s c.args.piece.now c.requires.value b leaf c.requires.reads (sym (ap written_bytes c.in-Ok.is) ∙ c.written.ensures)) in
     omega (arith, long, c.requires.room, c.push_reserved.ensures.spare)
 
 pub push_piece-unreachable-requires : goal.push_piece-unreachable-requires
 push_piece-unreachable-requires t c =
-    let leaf = is_leaf c.args.t.now c.in_default.not-Nullable c.in_default.not-Named c.in_default.not-Array in
+    let leaf = is_leaf c.args.t.now (record { nullable = c.in_default.not-Nullable; named = c.in_default.not-Named; array = c.in_default.not-Array; range = c.in_default.not-Range; multirange = c.in_default.not-Multirange }) in
     leaf_not_refused (known_of c.args.found.now) (shape c.args.t.now) c.args.piece.now c.requires.value c.in-Err.field-0 leaf c.requires.reads (sym (ap written_bytes c.in-Err.is) ∙ c.written.ensures)
 
 pub push_piece-returns-in-Array : goal.push_piece-returns-in-Array
@@ -225,7 +225,7 @@ push_piece-returns-in-Ok t c = λ v read.
     let known = known_of c.args.found.now in
     let s = shape c.args.t.now in
     let b = bytes_of c.in-Ok.written in
-    let leaf = is_leaf c.args.t.now c.in_default.not-Nullable c.in_default.not-Named c.in_default.not-Array in
+    let leaf = is_leaf c.args.t.now (record { nullable = c.in_default.not-Nullable; named = c.in_default.not-Named; array = c.in_default.not-Array; range = c.in_default.not-Range; multirange = c.in_default.not-Multirange }) in
     let is = leaf_bytes known s c.args.piece.now v b leaf read (sym (ap written_bytes c.in-Ok.is) ∙ c.written.ensures) in
     let front = c.push_reserved.ensures.bytes ∙ ap (λ l. c.args.out.now.bytes ++ l) (c.to_be_bytes.ensures ∙ ap (to_be_bytes w32) c.len.ensures) in (
       field_written c.args.out.now.bytes c.push_reserved.new.self.bytes c.push_reserved-in-Ok.new.out.bytes b (canonical_piece known s v) front c.push_reserved-in-Ok.ensures.bytes is,

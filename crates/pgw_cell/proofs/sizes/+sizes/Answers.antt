@@ -24,12 +24,12 @@ pub sized-returns-in-Ok : goal.sized-returns-in-Ok
 sized-returns-in-Ok t c =
     ap Ok (c.min.ensures ∙ ap counted c.len.ensures)
     ∙ ap (size_read length) (sym (ap written_bytes c.in-Ok.is) ∙ c.written.ensures)
-    ∙ leaf_sizes (shape c.args.t.now) c.args.piece.now (is_leaf c.args.t.now c.in_default.not-Nullable c.in_default.not-Named c.in_default.not-Array) (λ i. omega (arith, c.type_inv.piece i))
+    ∙ leaf_sizes (shape c.args.t.now) c.args.piece.now (is_leaf c.args.t.now (record { nullable = c.in_default.not-Nullable; named = c.in_default.not-Named; array = c.in_default.not-Array; range = c.in_default.not-Range; multirange = c.in_default.not-Multirange })) (λ i. omega (arith, c.type_inv.piece i))
 
 pub sized-returns-in-Err : goal.sized-returns-in-Err
 sized-returns-in-Err t c =
     ap (size_read length) (sym (ap written_bytes c.in-Err.is) ∙ c.written.ensures)
-    ∙ leaf_sizes (shape c.args.t.now) c.args.piece.now (is_leaf c.args.t.now c.in_default.not-Nullable c.in_default.not-Named c.in_default.not-Array) (λ i. omega (arith, c.type_inv.piece i))
+    ∙ leaf_sizes (shape c.args.t.now) c.args.piece.now (is_leaf c.args.t.now (record { nullable = c.in_default.not-Nullable; named = c.in_default.not-Named; array = c.in_default.not-Array; range = c.in_default.not-Range; multirange = c.in_default.not-Multirange })) (λ i. omega (arith, c.type_inv.piece i))
 
 pub sized_array-returns-in-Some : goal.sized_array-returns-in-Some
 sized_array-returns-in-Some t c =
