@@ -19,6 +19,7 @@ pub mod PlainFields
 pub mod Multiranges
 pub mod ReadCells
 pub mod ReadArrays
+pub mod ReadRanges
 pub mod WroteCells
 pub mod WorkedCells
 pub mod WorkedArrays

@@ -11,7 +11,7 @@ use Rattle.pgw_nested.proofs.Exact.{ok_is}
 use Rattle.pgw_cell.specs.Value.{Value, list_of}
 use Rattle.pgw_cell.specs.Pieces.{read_piece}
 use Rattle.pgw_cell.specs.Cells.{read_value}
-use Rattle.pgw_cell.specs.Data.{value_of, values_of, takes_memory, AnswersAs}
+use Rattle.pgw_cell.specs.Data.{value_of, values_of, takes_memory, AnswersBy, AnswersAs}
 use Rattle.pgw_cell.specs.Written.{cells_read}
 use Rattle.pgw_cell.specs.declared.datum.Datum.{Datum}
 use Rattle.pgw_cell.specs.declared.read.CellFault.{CellFault}
@@ -21,47 +21,50 @@ use Rattle.pgw_cell.proofs.Counted.{array_read}
 use Rattle.pgw_cell.proofs.Rewriting.{next_element}
 
 -- The values so far stand in front of those that are left.
-pub record ReadSoFar (t : Shape) (first now : Elements) (items : List Datum) : Type 0 where
+pub record ReadSoFar (t : Shape) (first now : Elements) (values : List Value) : Type 0 where
   pub all : List Value × List ℕ
   pub whole : cells_read t first ≡ Ok all
   pub left : List Value × List ℕ
   pub reads : cells_read t now ≡ Ok left
-  pub is : all.0 ≡ values_of items ++ left.0
+  pub is : all.0 ≡ values ++ left.0
   pub rest : all.1 ≡ left.1
   pub few : now.left ≤ first.left
 
 pub none_read : (t : Shape) (first : Elements) (x : List Value × List ℕ) → cells_read t first ≡ Ok x → ReadSoFar t first first []
 none_read t first x e = record { all = x; whole = e; left = x; reads = e; is = refl; rest = refl; few = omega arith }
 
-pub one_read : (t : Shape) (c : Cell) (first before now : Elements) (items more : List Datum) (d : Datum) → IsNext c before now → ReadSoFar t first before items → read_value t c ≡ Ok (value_of d) → more ≡ items ++ (d ∷ []) → ReadSoFar t first now more
-one_read t c first before now items more d n s read is =
+pub one_read : (t : Shape) (c : Cell) (first before now : Elements) (values more : List Value) (v : Value) → IsNext c before now → ReadSoFar t first before values → read_value t c ≡ Ok v → more ≡ values ++ (v ∷ []) → ReadSoFar t first now more
+one_read t c first before now values more v n s read is =
     let x = next_element t c before now s.left n s.reads in
-    let same = ok_is {E = Break} x.value (value_of d) (sym x.reads ∙ read) in
+    let same = ok_is {E = Break} x.value v (sym x.reads ∙ read) in
     record {
       all = s.all;
       whole = s.whole;
       left = x.others;
       reads = x.behind;
-      is = s.is ∙ ap (λ (l : List Value). values_of items ++ l) (x.is ∙ ap (λ v. v ∷ x.others.0) same)
-          ∙ sym (append_assoc (values_of items) (value_of d ∷ []) x.others.0)
-          ∙ ap (λ (l : List Value). l ++ x.others.0) (sym (ap values_of is ∙ map-append value_of items (d ∷ [])));
+      is = s.is ∙ ap (λ (l : List Value). values ++ l) (x.is ∙ ap (λ u. u ∷ x.others.0) same)
+          ∙ sym (append_assoc values (v ∷ []) x.others.0) ∙ ap (λ (l : List Value). l ++ x.others.0) (sym is);
       rest = s.rest ∙ x.rest;
       few = omega (arith, s.few, n.left);
     }
 
+-- one item more in a list, as a value
+pub value_more : (items more : List Datum) (d : Datum) → more ≡ items ++ (d ∷ []) → values_of more ≡ values_of items ++ (value_of d ∷ [])
+value_more items more d is = ap values_of is ∙ map-append value_of items (d ∷ [])
+
 -- An element of an array that spells a value does not break.
-pub not_broken : (t : Shape) (c : Cell) (first before now : Elements) (items : List Datum) (kind : Break) → IsNext c before now → ReadSoFar t first before items → read_value t c ≡ Err kind → ⊥
-not_broken t c first before now items kind n s e = let x = next_element t c before now s.left n s.reads in never_both (read_value t c) x.value kind x.reads e
+pub not_broken : (t : Shape) (c : Cell) (first before now : Elements) (values : List Value) (kind : Break) → IsNext c before now → ReadSoFar t first before values → read_value t c ≡ Err kind → ⊥
+not_broken t c first before now values kind n s e = let x = next_element t c before now s.left n s.reads in never_both (read_value t c) x.value kind x.reads e
 
 -- So it is refused for want of memory alone.
-pub only_memory : (t : Shape) (c : Cell) (first before now : Elements) (items : List Datum) (e : CellFault) → IsNext c before now → ReadSoFar t first before items → AnswersAs (Err e) (read_value t c) → (e ≡ NoMemory) × (0 < first.left)
-only_memory t c first before now items (Broken kind) n s a = absurd (not_broken t c first before now items kind n s a)
-only_memory t c first before now items NoMemory n s a = (refl, omega (arith, s.few, n.left))
+pub only_memory : {A : Type 0} (value : A → Value) (t : Shape) (c : Cell) (first before now : Elements) (values : List Value) (e : CellFault) → IsNext c before now → ReadSoFar t first before values → AnswersBy value (Err e) (read_value t c) → (e ≡ NoMemory) × (0 < first.left)
+only_memory value t c first before now values (Broken kind) n s a = absurd (not_broken t c first before now values kind n s a)
+only_memory value t c first before now values NoMemory n s a = (refl, omega (arith, s.few, n.left))
 
-pub all_are_read : (t : Shape) (first now : Elements) (items : List Datum) → ReadSoFar t first now items → now.left ≡ 0 → (rest : List ℕ) × (cells_read t first ≡ Ok (values_of items, rest))
-all_are_read t first now items s none =
+pub all_are_read : (t : Shape) (first now : Elements) (values : List Value) → ReadSoFar t first now values → now.left ≡ 0 → (rest : List ℕ) × (cells_read t first ≡ Ok (values, rest))
+all_are_read t first now values s none =
     let left = ok_is {E = Break} ([], now.rest) s.left (sym (none_left (λ (x : Cell). read_value t x) now none) ∙ s.reads) in
-    let are : s.all.0 ≡ values_of items = s.is ∙ ap (λ (y : List Value × List ℕ). values_of items ++ y.0) (sym left) ∙ append-nil (values_of items) in
+    let are : s.all.0 ≡ values = s.is ∙ ap (λ (y : List Value × List ℕ). values ++ y.0) (sym left) ∙ append-nil values in
     (s.all.1, s.whole ∙ ap (λ (vs : List Value). Ok (vs, s.all.1)) are)
 
 -- what is read of the array, by its elements

@@ -1,8 +1,9 @@
 -- The values of the program as values of columns.
 use Rattle.std.specs.Prelude.{◌≡◌, ◌||◌, Bool, true, false, List, map, Result, Ok, Err, IsTrue}
+use Rattle.std.specs.declared.ops.Bound.{Bound}
 use Rattle.pgw_wire.specs.declared.kind.Break.{Break}
 use Rattle.pgw_numeric.specs.Numeric.{number as numeric_number, not_a_number}
-use Rattle.pgw_cell.specs.Value.{Value, null, truth, number, bytes, string, network, interval, numeric, list, range, multirange, BoundValue, unbounded, included, excluded, Values, no_values, value_then}
+use Rattle.pgw_cell.specs.Value.{Value, null, truth, number, bytes, string, network, interval, numeric, list, range, multirange, BoundValue, unbounded, included, excluded, bound_value, Values, no_values, value_then}
 use Rattle.pgw_cell.specs.declared.datum.BoundDatum.{BoundDatum}
 use Rattle.pgw_cell.specs.declared.datum.BoundDatum.TheVariants.{Unbounded, Included', Excluded'}
 use Rattle.pgw_cell.specs.declared.datum.RangeDatum.{RangeDatum}
@@ -84,6 +85,11 @@ abbrev pub AnswersBy : {A : Type 0} → (A → Value) → Result A CellFault →
 AnswersBy value (Ok d) read = read ≡ Ok (value d)
 AnswersBy value (Err (Broken kind)) read = read ≡ Err kind
 AnswersBy value (Err NoMemory) read = (v : Value) × (read ≡ Ok v) × IsTrue (takes_memory v)
+
+-- What is answered is the bound, or, where it has a value, that memory was refused.
+abbrev pub AnswersBound : Bound Value → Result BoundDatum CellFault → Type 0
+AnswersBound bound (Ok d) = bound_of d ≡ bound_value bound
+AnswersBound bound (Err fault) = (fault ≡ NoMemory) × IsTrue (has_value (bound_value bound))
 
 abbrev pub AnswersAs : Result Datum CellFault → Result Value Break → Type 0
 AnswersAs = AnswersBy value_of

@@ -13,13 +13,13 @@ ghost use Rattle.pgw_scalar.specs.Text.{read_text};
 ghost use Rattle.pgw_scalar.specs.Networks.{read_network};
 ghost use Rattle.pgw_time.specs.Interval.{read_interval};
 ghost use Rattle.pgw_numeric.specs.Numeric.{read_numeric};
-ghost use Rattle.pgw_cell.specs.Value.{Value, truth, number, natural, string, bytes, network, interval, numeric, bound_value};
+ghost use Rattle.pgw_cell.specs.Value.{Value, truth, number, natural, string, bytes, network, interval, numeric};
 ghost use Rattle.pgw_cell.specs.Built.{IsBuilt};
 ghost use Rattle.pgw_cell.specs.Spellings.{read_as};
 ghost use Rattle.pgw_cell.specs.Ranges.{HasBound, bound_cell, part_spelling};
 ghost use Rattle.pgw_cell.specs.Pieces.{read_piece};
 ghost use Rattle.pgw_cell.specs.Cells.{Spells, Breaks, read_value};
-ghost use Rattle.pgw_cell.specs.Data.{value_of, data_of, values_of, value_of_range, range_values, bound_of, has_value, takes_memory, AnswersBy, AnswersAs};
+ghost use Rattle.pgw_cell.specs.Data.{value_of, data_of, values_of, value_of_range, range_values, takes_memory, AnswersBy, AnswersBound, AnswersAs};
 ghost use Rattle.pgw_cell.specs.Written.{AreBytes, cell_of_bound, cells_read};
 
 use crate::multirange::sized_multirange;
@@ -366,8 +366,7 @@ fn read_bound(
     bound: Bound<Canonical<'_>>,
 ) -> Result<BoundDatum, CellFault>
     ensures { (b : Bound Value) → HasBound (part_spelling (shape part.now)).Has b
-        → cell_of_bound bound.entry ≡ bound_cell (part_spelling (shape part.now)).canonical b → MatchResult result
-        (λ d. bound_of d ≡ bound_value b) (λ fault. (fault ≡ CellFault.NoMemory) × IsTrue (has_value (bound_value b))) }
+        → cell_of_bound bound.entry ≡ bound_cell (part_spelling (shape part.now)).canonical b → AnswersBound b result }
 {
     match bound {
         Bound::Unbounded => Ok(BoundDatum::Unbounded),

@@ -3,7 +3,7 @@ use Rattle.std.specs.Int.{to_be_bytes, w32}
 use Rattle.pgw_wire.specs.Cell.{Cell, cell_of, frame}
 use Rattle.pgw_wire.specs.declared.cell.RawCell.{RawCell}
 use Rattle.pgw_meta.specs.NamedOids.{known_of, oids_of}
-use Rattle.pgw_meta.specs.Shape.{array}
+use Rattle.pgw_meta.specs.Shape.{array, range, multirange}
 use Rattle.pgw_meta.specs.Types.{shape}
 use Rattle.pgw_meta.specs.declared.types.PgType.{PgType}
 use Rattle.pgw_scalar.proofs.Readers.{never_both}
@@ -219,6 +219,27 @@ push_piece-returns-in-Array t c =
     let p = c.args.piece.now in
     subst (λ (u : PgType). Appends (read_piece (shape u) p) (piece_bytes known (shape u)) c.args.out.now c.push_array.new.out) (sym c.in-Array.is)
     (subst (λ (u : PgType). Appends (read_piece (array (shape u)) p) (piece_bytes known (array (shape u))) c.args.out.now c.push_array.new.out) c.deref.ensures c.push_array.ensures)
+
+pub push_piece-push_multirange-requires : goal.push_piece-push_multirange-requires
+push_piece-push_multirange-requires t c =
+    let known = known_of c.args.found.now in
+    let p = c.args.piece.now in
+    subst (λ (u : PgType). HasRoom (read_piece (multirange (shape u)) p) (piece_bytes known (multirange (shape u))) c.args.out.now.spare) (sym c.deref-in-Multirange.ensures)
+    (subst (λ (u : PgType). HasRoom (read_piece (shape u) p) (piece_bytes known (shape u)) c.args.out.now.spare) c.in-Multirange.is c.requires)
+
+pub push_piece-returns-in-Range : goal.push_piece-returns-in-Range
+push_piece-returns-in-Range t c =
+    let known = known_of c.args.found.now in
+    let p = c.args.piece.now in
+    subst (λ (u : PgType). Appends (read_piece (shape u) p) (piece_bytes known (shape u)) c.args.out.now c.push_range.new.out) (sym c.in-Range.is)
+    (subst (λ (u : PgType). Appends (read_piece (range (shape u)) p) (piece_bytes known (range (shape u))) c.args.out.now c.push_range.new.out) c.deref-in-Range.ensures c.push_range.ensures)
+
+pub push_piece-returns-in-Multirange : goal.push_piece-returns-in-Multirange
+push_piece-returns-in-Multirange t c =
+    let known = known_of c.args.found.now in
+    let p = c.args.piece.now in
+    subst (λ (u : PgType). Appends (read_piece (shape u) p) (piece_bytes known (shape u)) c.args.out.now c.push_multirange.new.out) (sym c.in-Multirange.is)
+    (subst (λ (u : PgType). Appends (read_piece (multirange (shape u)) p) (piece_bytes known (multirange (shape u))) c.args.out.now c.push_multirange.new.out) c.deref-in-Multirange.ensures c.push_multirange.ensures)
 
 pub push_piece-returns-in-Ok : goal.push_piece-returns-in-Ok
 push_piece-returns-in-Ok t c = λ v read.

@@ -2,7 +2,7 @@ use Rattle.std.proofs.Common.{◌∙◌, ◌+◌, Ok, Err, length, refl, sym, ap
 use Rattle.pgw_wire.specs.Cell.{Cell, cell_of}
 use Rattle.pgw_wire.specs.declared.cell.RawCell.{RawCell}
 use Rattle.pgw_wire.proofs.Taking.{exit}
-use Rattle.pgw_meta.specs.Shape.{array}
+use Rattle.pgw_meta.specs.Shape.{array, range, multirange}
 use Rattle.pgw_meta.specs.Types.{shape}
 use Rattle.pgw_meta.specs.declared.types.PgType.{PgType}
 use Rattle.pgw_nested.specs.Pieces.{elements_of}
@@ -19,6 +19,16 @@ pub sized-returns-in-Array : goal.sized-returns-in-Array
 sized-returns-in-Array t c =
     c.sized_array.ensures ∙ ap (λ (u : PgType). size_read (piece_size (array (shape u))) (read_piece (array (shape u)) c.args.piece.now)) c.deref.ensures
     ∙ ap (λ (u : PgType). size_read (piece_size (shape u)) (read_piece (shape u) c.args.piece.now)) (sym c.in-Array.is)
+
+pub sized-returns-in-Range : goal.sized-returns-in-Range
+sized-returns-in-Range t c =
+    c.sized_range.ensures ∙ ap (λ (u : PgType). size_read (piece_size (range (shape u))) (read_piece (range (shape u)) c.args.piece.now)) c.deref-in-Range.ensures
+    ∙ ap (λ (u : PgType). size_read (piece_size (shape u)) (read_piece (shape u) c.args.piece.now)) (sym c.in-Range.is)
+
+pub sized-returns-in-Multirange : goal.sized-returns-in-Multirange
+sized-returns-in-Multirange t c =
+    c.sized_multirange.ensures ∙ ap (λ (u : PgType). size_read (piece_size (multirange (shape u))) (read_piece (multirange (shape u)) c.args.piece.now)) c.deref-in-Multirange.ensures
+    ∙ ap (λ (u : PgType). size_read (piece_size (shape u)) (read_piece (shape u) c.args.piece.now)) (sym c.in-Multirange.is)
 
 pub sized-returns-in-Ok : goal.sized-returns-in-Ok
 sized-returns-in-Ok t c =
