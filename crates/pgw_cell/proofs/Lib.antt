@@ -15,6 +15,7 @@ pub mod Measured
 pub mod RangeAnswers
 pub mod Rewriting
 pub mod Writing
+pub mod WriteRanges
 pub mod PlainFields
 pub mod Multiranges
 pub mod ReadCells

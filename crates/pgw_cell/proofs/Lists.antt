@@ -1,9 +1,9 @@
 -- The value of a list is the array of the values in it, and that of a list of ranges the multirange.
-use Rattle.std.proofs.Common.{◌≡◌, map, refl, ap, ◌∙◌}
+use Rattle.std.proofs.Common.{◌≡◌, map, refl, sym, ap, ◌∙◌}
 use mathlib.Core.Former.{Count}
 use Rattle.pgw_cell.specs.Value.{value_then, list, list_of, multirange, multirange_of, range, values}
 use Rattle.pgw_cell.specs.Data.{value_of, bound_of, row_values, row_ranges, list_ranges, data_of, values_of, value_of_range, range_values, ranges_of}
-use Rattle.pgw_cell.specs.declared.datum.RangeList.{RangeList, RangeList', Row_of-RangeDatum, end_of-RangeDatum, more_of-RangeDatum, items-the_row-RangeDatum, items_shown-the_row-RangeDatum-1}
+use Rattle.pgw_cell.specs.declared.datum.RangeList.{RangeList, out-RangeList, RangeList', Row_of-RangeDatum, end_of-RangeDatum, more_of-RangeDatum, items-the_row-RangeDatum, items_shown-the_row-RangeDatum-1}
 use Rattle.pgw_cell.specs.declared.datum.DatumList.{DatumList}
 use Rattle.pgw_cell.specs.declared.datum.Datum.{Datum, List as list_datum, Ranges, List', Row_of-Datum, end_of-Datum, more_of-Datum, items-the_row-Datum, items_hidden-the_row-Datum-0}
 
@@ -26,7 +26,8 @@ range_row_is n end_of-RangeDatum = refl
 range_row_is n (more_of-RangeDatum l u rest) = ap (value_then (range (bound_of l) (bound_of u))) (range_row_is _ rest)
 
 ranges_are : (l : RangeList) → list_ranges l ≡ values (range_values l)
-ranges_are (RangeList' n row) = range_row_is _ row ∙ ap (λ ds. values (map value_of_range ds)) (items_shown-the_row-RangeDatum-1 n row)
+unfolding out-RangeList Rattle.pgw_cell.specs.declared.datum.BoundDatum.TheBlock.shown-the_row-RangeDatum-1 denote.Hole.Carrier.out denote.Hole.Carrier.shown
+ranges_are (RangeList' n row) = range_row_is _ row ∙ ap (λ ds. values (map value_of_range ds)) (sym (items_shown-the_row-RangeDatum-1 n row))
 
 pub value_of_ranges : (l : RangeList) → value_of (Ranges l) ≡ multirange_of (range_values l)
 value_of_ranges l = ap multirange (ranges_are l)

@@ -50,12 +50,6 @@ pub part_again : (t : Shape) (v : Value) → (part_spelling t).Has v → read_pi
 part_again (scalar s) v has = let w = spelling_whole s in w.exact.reads.again ((spelling s).canonical v) v (w.written v has)
 part_again _ v has = absurd has
 
--- There is no value where the bytes of a bound are of none.
-pub unbounded_is : (t : Shape) (b : Bound Value) → cell_of_bound Unbounded ≡ bound_cell (part_spelling t).canonical b → unbounded ≡ bound_value b
-unbounded_is t Unbounded e = refl
-unbounded_is t (Included v) e = absurd cc
-unbounded_is t (Excluded v) e = absurd cc
-
 -- The value of an included bound, and of an excluded one.
 pub record BoundIs (t : Shape) (w : Canonical) (bound : Value → Bound Value) (b : Bound Value) : Type 0 where
   pub value : Value
