@@ -1,4 +1,4 @@
-use Rattle.std.proofs.Common.{rules, ◌∙◌, ◌+◌, sym, ap}
+use Rattle.std.proofs.Common.{rules, ◌∙◌, ◌+◌, sym, ap, arith}
 use Rattle.pgw_meta.specs.Shape.{array, range, multirange}
 use Rattle.pgw_meta.specs.Types.{shape}
 use Rattle.pgw_meta.specs.declared.types.PgType.{PgType}
@@ -33,7 +33,7 @@ bounds_size-value_bound_size-requires t c =
 pub bounds_size-returns : goal.bounds_size-returns
 bounds_size-returns t c =
     let r = range_is no_oids (shape c.args.part.now) (bound_of c.args.bounds.now.lower) (bound_of c.args.bounds.now.upper) c.requires in
-    ?
+    omega (arith, c.min.ensures, c.value_bound_size.ensures.value, c.value_bound_size-2.ensures.value, c.value_bound_size.ensures.few, c.value_bound_size-2.ensures.few, r.size)
 
 pub multirange_size-ranges_size-requires : goal.multirange_size-ranges_size-requires
 multirange_size-ranges_size-requires t c =
