@@ -8,7 +8,7 @@ use Rattle.pgw_nested.specs.Frames.{HasNoFrame}
 use Rattle.pgw_nested.specs.Array.{Elements, kind_named}
 use Rattle.pgw_nested.specs.Pieces.{IsNext, GivesNext}
 use Rattle.pgw_nested.specs.Reading.{◌>>=◌, named, cell_at, read_cells}
-use Rattle.pgw_nested.proofs.ArrayFields.{bind_ok}
+use Rattle.pgw_nested.proofs.Steps.{bind_ok}
 use Rattle.pgw_nested.proofs.Exact.{ok_is}
 use Rattle.pgw_nested.proofs.Cutting.{cell_again, no_frame_again}
 use Rattle.pgw_cell.specs.Value.{Value}

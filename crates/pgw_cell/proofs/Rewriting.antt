@@ -14,7 +14,7 @@ use Rattle.pgw_nested.specs.Array.{Elements, BeginsArray, is_null, any_null, fla
 use Rattle.pgw_nested.specs.Marks.{null_length}
 use Rattle.pgw_nested.specs.Pieces.{IsNext}
 use Rattle.pgw_nested.specs.Reading.{◌>>=◌}
-use Rattle.pgw_nested.proofs.ArrayFields.{bind_ok}
+use Rattle.pgw_nested.proofs.Steps.{bind_ok}
 use Rattle.pgw_nested.proofs.Beginnings.{head_length}
 use Rattle.pgw_nested.proofs.Writings.{flag_set, overwritten_behind, length_set}
 use Rattle.pgw_cell.specs.Value.{Value, null, list_of}

@@ -7,6 +7,8 @@ mod nested;
 #[cfg(test)]
 mod numeric;
 #[cfg(test)]
+mod range;
+#[cfg(test)]
 mod result;
 #[cfg(test)]
 mod row;

@@ -1,4 +1,4 @@
-ghost use Rattle.std.specs.Prelude.{◌≡◌, ◌≤◌, Some, Err, IfOk};
+ghost use Rattle.std.specs.Prelude.{◌≡◌, ◌≤◌, ℕ, Some, Err, IfOk};
 ghost use Rattle.pgw_wire.specs.Outside.{HasFailed};
 ghost use Rattle.pgw_meta.specs.Known.{Known, known};
 ghost use Rattle.pgw_meta.specs.Metadata.{metadata_of};
@@ -19,14 +19,22 @@ pub trait SingleValue: SqlType {}
 
 /// A marker of a type that PostgreSQL has ranges over.
 pub trait RangeElement: NotNull {
+    ghost RANGE_OID: { ℕ };
+
     /// The oid of the type of its ranges.
     const RANGE_OID: u32;
+
+    ghost RANGE_ARRAY_OID: { ℕ };
 
     /// The oid of the type of arrays of its ranges.
     const RANGE_ARRAY_OID: u32;
 
+    ghost MULTIRANGE_OID: { ℕ };
+
     /// The oid of the type of its multiranges.
     const MULTIRANGE_OID: u32;
+
+    ghost MULTIRANGE_ARRAY_OID: { ℕ };
 
     /// The oid of the type of arrays of its multiranges.
     const MULTIRANGE_ARRAY_OID: u32;

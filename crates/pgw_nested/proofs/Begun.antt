@@ -1,8 +1,5 @@
 -- What the reader of an array cuts from its field, number by number.
-use Rattle.std.proofs.Common.{◌≡◌, ◌≢◌, ◌⊎◌, inl, inr, ℕ, ◌+◌, ◌^◌, ◌<◌, ℤ, Bool, true, false, List, ◌++◌, length, Fits, refl, sym, ap, ◌∙◌, arith}
-use Rattle.std.proofs.lemmas.Int.{to_z-of_z}
-use Rattle.std.proofs.Math.Facts.{sfits_to_z}
-use mir.Val.{to_z, of_z}
+use Rattle.std.proofs.Common.{◌≡◌, ◌≢◌, ℕ, ◌+◌, ◌^◌, ◌<◌, List, ◌++◌, length, refl, sym, ap, ◌∙◌, arith}
 use Rattle.std.specs.Int.{w32, to_be_bytes, cast_signed}
 use Rattle.std.proofs.lemmas.List.{length-append}
 use Rattle.pgw_wire.specs.declared.sql_error.SqlError.{SqlError}
@@ -58,14 +55,3 @@ one bytes d f o n l r s t u v first a b c g h =
           ∙ ap (λ (x : List ℕ). to_be_bytes w32 1 ++ x) (b.0 ∙ ap (λ (x : List ℕ). to_be_bytes w32 f ++ x) (c.0 ∙ ap (λ (x : List ℕ). to_be_bytes w32 o ++ x) (g.0 ∙ ap (λ (x : List ℕ). to_be_bytes w32 n ++ x) h.0)))
           ∙ sym (head_is f o n l v);
     }) refl
-
--- A number without sign, told as one with sign, is told so again.
-pub told_again : (n : ℕ) (z : ℤ) → n < 2 ^ 32 → z ≡ cast_signed w32 n → to_z w32 (of_z w32 z) ≡ cast_signed w32 n
-told_again n z fits is =
-    let f : Fits w32 n = record { fits = fits } in
-    ap (λ (x : ℤ). to_z w32 (of_z w32 x)) is ∙ to_z-of_z w32 (cast_signed w32 n) (sfits_to_z f)
-
--- Where a length of -1 was not taken for a null.
-pub no_null_length : (nulls : Bool) (n : ℕ) → ((nulls ≡ true) × (n ≡ 4294967295 → ⊥)) ⊎ (nulls ≡ false) → nulls ≡ true → n ≢ 4294967295
-no_null_length nulls n (inl w) null = w.1
-no_null_length nulls n (inr w) null = absurd (cc)

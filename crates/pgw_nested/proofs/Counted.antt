@@ -1,5 +1,5 @@
 -- A counted list of cells, whose frames stand one behind the other, and what it is read as.
-use Rattle.std.proofs.Common.{◌≡◌, ◌+◌, ◌-◌, ℕ, zero, suc, Bool, List, [], ◌∷◌, ◌++◌, length, Result, Ok, Err, refl, sym, ap, ◌∙◌, append_assoc, arith}
+use Rattle.std.proofs.Common.{◌≡◌, ◌+◌, ◌-◌, ℕ, zero, suc, Bool, List, [], ◌∷◌, ◌++◌, length, Result, Ok, Err, refl, sym, ap, ◌∙◌, append_assoc, append-nil, arith}
 use Rattle.pgw_wire.specs.Cell.{Cell, frame}
 use Rattle.pgw_wire.specs.declared.sql_error.SqlError.{SqlError}
 use Rattle.pgw_nested.specs.Frames.{frames, AreFramed}
@@ -38,6 +38,11 @@ module _ {A E : Type 0} (name : SqlError → E) (Spell : Cell → A → Type 0) 
   cells_then (c ∷ cs) (v ∷ vs) (suc m) n behind many f s =
       ap (read_cells name read nulls (suc m)) (append_assoc (frame c) (frames cs) behind) ∙
       rw (cell_again nulls c (frames cs ++ behind) f.0, exact.again c v s.0, cells_then cs vs m n behind (omega (arith, many)) f.1 s.1) (one_in_front v vs (read_cells name read nulls n behind))
+
+  pub cells_again : (cells : List Cell) (vs : List A) (behind : List ℕ) → AreFramed nulls cells → Each Spell cells vs → read_cells name read nulls (length cells) (frames cells ++ behind) ≡ Ok (vs, behind)
+  unfolding read_cells
+  cells_again cells vs behind f s =
+      cells_then cells vs (length cells) 0 behind (omega arith) f s ∙ ap (λ (ws : List A). Ok (ws, behind)) (append-nil vs)
 
   next_again : (n : ℕ) (behind : List ℕ) (e : E) → NextFails name Fail nulls behind e → read_cells name read nulls (suc n) behind ≡ Err e
   unfolding read_cells

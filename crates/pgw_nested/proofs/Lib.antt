@@ -16,8 +16,8 @@ pub mod MultirangeFields
 pub mod RangeCanonical
 pub mod RangeBreaking
 pub mod WorkedRanges
-mod Steps
+pub mod Steps
 mod Cut
 pub mod Bounds
 mod RangeWritings
-mod SoFar
+mod RangesRead

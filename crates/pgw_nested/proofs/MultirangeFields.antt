@@ -9,10 +9,9 @@ use Rattle.pgw_nested.specs.Array.{Elements, kind_named}
 use Rattle.pgw_nested.specs.Reading.{◌>>=◌, read_cells}
 use Rattle.pgw_nested.proofs.Exact.{IsExact}
 use Rattle.pgw_nested.proofs.Cutting.{IsBytes, IsBytesCell, word_again, split_word, bytes_dropped}
-use Rattle.pgw_nested.proofs.ArrayFields.{cells_again}
 use Rattle.pgw_nested.specs.Multirange.{ranges_in, BeginsMultirange, IsMultirange, FailsMultirange, no_count, fails_at_range, BreaksMultirange}
 use Rattle.pgw_nested.specs.RangeReading.{read_counted, read_multirange_by, read_multirange}
-use Rattle.pgw_nested.proofs.Counted.{Outcome, outcome, fault_again}
+use Rattle.pgw_nested.proofs.Counted.{Outcome, outcome, cells_again, fault_again}
 
 module _ {A E : Type 0} (name : SqlError → E) (Spell : Cell → A → Type 0) (Fail : Cell → E → Type 0) (read : Cell → Result A E) (exact : IsExact IsBytesCell Spell Fail read) where
   read_on : (bytes : List ℕ) (ranges : Elements) (r : Result (List A × List ℕ) E) → BeginsMultirange bytes ranges → read_cells name read ranges.nulls ranges.left ranges.rest ≡ r

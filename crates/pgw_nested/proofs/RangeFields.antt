@@ -13,11 +13,10 @@ use Rattle.pgw_nested.specs.Array.{kind_named}
 use Rattle.pgw_nested.specs.Reading.{◌>>=◌, named, cell_at}
 use Rattle.pgw_nested.proofs.Exact.{IsExact, ok_is, err_is}
 use Rattle.pgw_nested.proofs.Cutting.{IsBytes, IsBytesCell, bytes_dropped, cell_again, no_frame_again, cell_takes, no_frame_is}
-use Rattle.pgw_nested.proofs.ArrayFields.{bind_ok, bind_err}
 use Rattle.pgw_nested.specs.Flags.{has, empty, lower_included, upper_included, lower_infinite, upper_infinite}
 use Rattle.pgw_nested.specs.Range.{Bounds, bound_at, HasLower, no_lower, lower_piece, HasUpper, no_upper, upper_piece, AreRangeParts, no_bounds, two_bounds, SpellsBound, no_value, SpellParts, IsRange, as_range, FailsLower, no_lower_piece, lower_fails, FailsUpper, no_upper_piece, upper_fails, FailsRange, no_flags, fails_at_lower, fails_at_upper, BreaksRange}
 use Rattle.pgw_nested.specs.RangeReading.{lower_of, lower_at, upper_at, read_bound, bounds_behind, read_range_by, read_range}
-use Rattle.pgw_nested.proofs.Steps.{named_ok, named_err, no_err}
+use Rattle.pgw_nested.proofs.Steps.{bind_ok, bind_err, named_ok, named_err, no_err}
 
 -- ---- the pieces of the bounds
 

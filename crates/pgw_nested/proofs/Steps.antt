@@ -1,8 +1,17 @@
--- The steps of a reader whose errors are told by a name.
-use Rattle.std.proofs.Common.{◌≡◌, Result, Ok, Err, refl, sym, ap}
+-- The steps of a reader, of which each may fail, and whose errors are told by a name.
+use Rattle.std.proofs.Common.{◌≡◌, ◌⊎◌, inl, inr, Result, Ok, Err, refl, sym, ap}
 use Rattle.pgw_wire.specs.declared.sql_error.SqlError.{SqlError}
-use Rattle.pgw_nested.specs.Reading.{named}
+use Rattle.pgw_nested.specs.Reading.{◌>>=◌, named}
 use Rattle.pgw_nested.proofs.Exact.{ok_is, err_is}
+
+pub bind_ok : {E A B : Type 0} (r : Result A E) (f : A → Result B E) (y : B) → (r >>= f) ≡ Ok y → (x : A) × (r ≡ Ok x) × (f x ≡ Ok y)
+bind_ok (Ok x) f y e = (x, refl, e)
+bind_ok (Err d) f y e = absurd cc
+
+-- Either the first step fails, or the second.
+pub bind_err : {E A B : Type 0} (r : Result A E) (f : A → Result B E) (d : E) → (r >>= f) ≡ Err d → (r ≡ Err d) ⊎ ((x : A) × (r ≡ Ok x) × (f x ≡ Err d))
+bind_err (Ok x) f d e = inr (x, refl, e)
+bind_err (Err k) f d e = inl cc
 
 pub named_ok : {A E : Type 0} (name : SqlError → E) (r : Result A SqlError) (x : A) → named name r ≡ Ok x → r ≡ Ok x
 named_ok {A = A} {E = E} name (Ok y) x e = ap Ok (ok_is {E = E} y x e)

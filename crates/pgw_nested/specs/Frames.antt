@@ -1,5 +1,5 @@
 -- The cells inside of a value. Each stands there as its frame: its length in 4 bytes, and then its bytes.
-use Rattle.std.specs.Prelude.{◌≡◌, ◌≢◌, ◌<◌, ◌≤◌, ◌^◌, ◌++◌, ⊤, ℕ, Bool, true, List, [], ◌∷◌, length, None, Some}
+use Rattle.std.specs.Prelude.{◌≡◌, ◌≢◌, ◌<◌, ◌≤◌, ◌^◌, ◌⊎◌, ◌++◌, ⊤, ℕ, Bool, true, List, [], ◌∷◌, length, None, Some}
 use Rattle.std.specs.Int.{w32, to_be_bytes, cast_signed}
 use Rattle.pgw_wire.specs.Cell.{Cell, frame}
 use Rattle.pgw_wire.specs.declared.sql_error.SqlError.{SqlError}
@@ -27,3 +27,10 @@ pub data HasNoFrame (nulls : Bool) (bytes : List ℕ) (error : SqlError) : Type 
       → (nulls ≡ true → n ≢ 4294967295) → error ≡ NegativeSize (cast_signed w32 n) → HasNoFrame nulls bytes error
   past_the_end : (n : ℕ) (rest : List ℕ) → bytes ≡ to_be_bytes w32 n ++ rest → n < 2147483648 → length rest < n
       → error ≡ ElementBytes (cast_signed w32 n) (length rest) → HasNoFrame nulls bytes error
+
+-- No piece of this length stands in front of the bytes: the length is negative, or it is more than the bytes. Each with
+-- the error that tells it.
+abbrev pub HasNoPiece : ℕ → List ℕ → SqlError → Type 0
+HasNoPiece n bytes error =
+    ((2147483648 ≤ n) × (error ≡ NegativeSize (cast_signed w32 n)))
+    ⊎ ((n < 2147483648) × (length bytes < n) × (error ≡ ElementBytes (cast_signed w32 n) (length bytes)))

@@ -1,12 +1,14 @@
--- What ranges are written as, over what their type says of each value.
-use Rattle.std.specs.Prelude.{◌≡◌, ◌⊎◌, ◌+◌, ℕ, List, Result, Ok, Err}
+-- What ranges and multiranges are written as, over what their type says of each value.
+use Rattle.std.specs.Prelude.{◌≡◌, ◌<◌, ◌⊎◌, ◌+◌, ℕ, List, length, Result, Ok, Err}
 use Rattle.std.specs.declared.ops.Bound.{Bound}
 use Rattle.std.specs.declared.ops.Bound.TheVariants.{Included, Excluded, Unbounded}
 use Rattle.pgw_wire.specs.Cell.{Cell}
 use Rattle.pgw_wire.specs.declared.is_null.IsNull.TheVariants.{Yes, No}
 use Rattle.pgw_meta.specs.Writing.{Writes, IsWriteRefused}
 use Rattle.pgw_meta.specs.declared.serialize.WriteError.{WriteError}
-use Rattle.pgw_nested.specs.Written.{WritesKnown, IsWrittenAs, IsRefusedWith}
+use Rattle.pgw_nested.specs.Array.{Each}
+use Rattle.pgw_nested.specs.Multirange.{multirange_bytes}
+use Rattle.pgw_nested.specs.Written.{WritesKnown, IsWrittenAs, IsRefusedWith, RefusesElements}
 use Rattle.pgw_nested.specs.Range.{Bounds, AreBounds, lower_flags, upper_flags, bound_bytes, range_bytes}
 use Rattle.pgw_nested.specs.declared.range_writing.BoundKind.{BoundKind}
 use Rattle.pgw_nested.specs.declared.range_writing.BoundKind.TheVariants as kind
@@ -40,6 +42,14 @@ abbrev pub WritesBoundsOf : {A R : Type 0} → (R → Bound A → Type 0) → (R
 WritesBoundsOf {A} is_lower is_upper writes known value answer bytes =
     (bounds : Bounds A) × is_lower value bounds.0 × is_upper value bounds.1
     × WritesRange writes known bounds answer bytes
+
+-- A multirange is never null. It is written as the cells of its ranges. It is refused as the elements of an array are.
+abbrev pub WritesMultirange : {A : Type 0} → Writes A → Writes (List A)
+WritesMultirange writes known ranges (Ok Yes) bytes = ⊥
+WritesMultirange writes known ranges (Ok No) bytes =
+    (cells : List Cell) × (length ranges < 2147483648) × Each (IsWrittenAs (writes known)) cells ranges
+    × (bytes ≡ multirange_bytes cells)
+WritesMultirange writes known ranges (Err e) bytes = RefusesElements (writes known) ranges e
 
 -- ---- what the crate's own calls leave of the output
 

@@ -1,43 +1,13 @@
-ghost use Rattle.std.specs.Prelude.{◌≡◌, ◌<◌, ◌^◌, ◌++◌, length, IfSome, MatchResult};
-ghost use Rattle.std.specs.Int.{to_be_bytes, w32};
-ghost use Rattle.pgw_wire.specs.Cell.{cell_of, frame};
-ghost use Rattle.pgw_wire.specs.declared.sql_error.SqlError.TheVariants.{ShortBuffer as short_buffer};
+ghost use Rattle.std.specs.Prelude.{◌≡◌, IfSome, MatchResult};
+ghost use Rattle.pgw_wire.specs.Cell.{cell_of};
 ghost use Rattle.pgw_meta.specs.Reading.{cell_of_value};
-ghost use Rattle.pgw_nested.specs.Frames.{IsFramed, HasNoFrame};
 ghost use Rattle.pgw_nested.specs.Array.{BeginsArray, BeginsNoArray, elements_in};
 ghost use Rattle.pgw_nested.specs.Pieces.{elements_of, GivesNext};
 
-use crate::cuts::{NEGATIVE, take_word};
+use crate::cuts::{NEGATIVE, take_cell, take_word};
 use pgw_wire::deserialize::Result;
-use pgw_wire::{PgValue, RawCell, SqlError, take_piece};
+use pgw_wire::{PgValue, RawCell, SqlError};
 use std::num::NonZeroU32;
-
-/// The length of a null, -1, as a number without sign.
-const NULL: u32 = 0xffff_ffff;
-
-/// The cell whose frame stands in front of the bytes, and the rest: a length of 4 bytes, and as many bytes. Where nulls
-/// may stand, the length -1 is a null's. `ShortBuffer` where the bytes end inside the length, `NegativeSize` with any
-/// other length below 0, and `ElementBytes` with a length that is more than the bytes behind it.
-fn take_cell(nulls: bool, bytes: &[u8]) -> Result<(RawCell<'_>, &[u8])>
-    ensures { MatchResult result
-        (λ x. IsFramed nulls (cell_of x.0) × (bytes.now ≡ frame (cell_of x.0) ++ x.1.now))
-        (λ e. HasNoFrame nulls bytes.now e) }
-{
-    let (len, rest) = take_word(bytes)?;
-    if nulls && len == NULL {
-        return Ok((RawCell::Null, rest));
-    }
-    if len >= NEGATIVE {
-        return Err(SqlError::NegativeSize(len.cast_signed()));
-    }
-    match take_piece(rest, len as usize) {
-        Some((piece, rest)) => Ok((RawCell::Piece(piece), rest)),
-        None => Err(SqlError::ElementBytes {
-            want: len.cast_signed(),
-            have: rest.len(),
-        }),
-    }
-}
 
 /// How many elements a count is of: none where it is negative.
 fn elements_counted(count: u32) -> u32

@@ -20,6 +20,7 @@ mod range_pieces;
 mod range_writing;
 mod reserved;
 pub mod sql_types;
+mod std_ranges;
 
 pub use array::Items;
 pub use array_pieces::ArrayPieces;

@@ -9,8 +9,8 @@ ghost use Rattle.pgw_nested.specs.Marks.{null_length, IsWritten, bytes_behind, R
 use pgw_meta::serialize::WriteError;
 use pgw_wire::Output;
 
-/// The greatest length of a piece, and the greatest count of elements.
-const GREATEST: usize = 2147483647;
+/// The greatest length of a piece, and the greatest count of elements and of ranges.
+pub(crate) const GREATEST: usize = 2147483647;
 
 /// Where the flags of an array stand, counted from where the output began.
 #[derive(Drop)]

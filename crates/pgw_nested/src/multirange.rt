@@ -2,12 +2,15 @@ ghost use Rattle.std.specs.Prelude.{true};
 ghost use Rattle.pgw_meta.specs.Reading.{ReadsPiece, RefusesPiece};
 ghost use Rattle.pgw_nested.specs.Range.{IsRange, RefusesRange};
 ghost use Rattle.pgw_nested.specs.Multirange.{IsMultirange, RefusesMultirange};
+ghost use Rattle.pgw_nested.specs.RangeWritten.{WritesBoundsOf, WritesMultirange};
 
-use crate::MultirangePieces;
-use crate::sql_types::{Multirange, Range};
-use pgw_meta::Defaultable;
+use crate::multirange_writing::write_multirange;
+use crate::sql_types::{Multirange, Nullable, Range};
+use crate::{BoundsOf, Items, MultirangePieces};
 use pgw_meta::deserialize::{self, FromSql, required};
-use pgw_wire::PgValue;
+use pgw_meta::serialize::{self, ToSql};
+use pgw_meta::{Defaultable, PgMetadataLookup};
+use pgw_wire::{Output, PgValue};
 use std::alloc::Global;
 use std::ops::Bound;
 
@@ -45,5 +48,55 @@ impl<ST, T: FromSql<ST> + Defaultable> FromSql<Multirange<ST>> for Vec<(Bound<T>
         value: Option<PgValue<'_>>,
     ) -> deserialize::Result<Vec<(Bound<T>, Bound<T>)>> {
         <Vec<(Bound<T>, Bound<T>)> as FromSql<Multirange<ST>>>::from_sql(alloc, required(value)?)
+    }
+}
+
+impl<ST, R: BoundsOf> ToSql<Multirange<ST>> for Vec<R>
+where
+    R::Item: ToSql<ST>,
+{
+    ghost writes = { λ k v. WritesMultirange (WritesBoundsOf R.is_lower R.is_upper R.Item.writes) k v.items };
+
+    /// Appends how many ranges there are, in 4 bytes, and then each, its length and its bytes, as the range of its bounds is
+    /// written. The answer is `No`. The first refusal in the order of these bytes is the error: `TooMany` with more than
+    /// 2147483647 ranges, what a range is refused with, and `TooMany` with a range of more bytes.
+    fn to_sql<L: PgMetadataLookup>(&self, out: &mut Output<'_, L>) -> serialize::Result {
+        write_multirange::<ST, R::Item, R, L>(self.as_slice(), out)
+    }
+}
+
+impl<ST, R: BoundsOf> ToSql<Nullable<Multirange<ST>>> for Vec<R>
+where
+    R::Item: ToSql<ST>,
+{
+    ghost writes = { λ k v. WritesMultirange (WritesBoundsOf R.is_lower R.is_upper R.Item.writes) k v.items };
+
+    /// As a multirange that allows no null.
+    fn to_sql<L: PgMetadataLookup>(&self, out: &mut Output<'_, L>) -> serialize::Result {
+        write_multirange::<ST, R::Item, R, L>(self.as_slice(), out)
+    }
+}
+
+impl<'a, ST, R: BoundsOf> ToSql<Multirange<ST>> for Items<'a, R>
+where
+    R::Item: ToSql<ST>,
+{
+    ghost writes = { λ k v. WritesMultirange (WritesBoundsOf R.is_lower R.is_upper R.Item.writes) k v.0.now };
+
+    /// As a vector of these ranges.
+    fn to_sql<L: PgMetadataLookup>(&self, out: &mut Output<'_, L>) -> serialize::Result {
+        write_multirange::<ST, R::Item, R, L>(self.0, out)
+    }
+}
+
+impl<'a, ST, R: BoundsOf> ToSql<Nullable<Multirange<ST>>> for Items<'a, R>
+where
+    R::Item: ToSql<ST>,
+{
+    ghost writes = { λ k v. WritesMultirange (WritesBoundsOf R.is_lower R.is_upper R.Item.writes) k v.0.now };
+
+    /// As a multirange that allows no null.
+    fn to_sql<L: PgMetadataLookup>(&self, out: &mut Output<'_, L>) -> serialize::Result {
+        write_multirange::<ST, R::Item, R, L>(self.0, out)
     }
 }

@@ -2,18 +2,18 @@ ghost use Rattle.std.specs.Prelude.{◌≡◌};
 ghost use Rattle.pgw_meta.specs.Reading.{Answers, ReadsPiece, RefusesPiece};
 ghost use Rattle.pgw_nested.specs.Range.{SpellsBound, RefusesBound, no_value, IsRange, RefusesRange};
 ghost use Rattle.pgw_nested.specs.RangePieces.{bound_of};
-ghost use Rattle.pgw_nested.specs.RangeWritten.{WritesRange, WritesBoundsOf};
+ghost use Rattle.pgw_nested.specs.RangeWritten.{WritesRange};
 
-use crate::range_writing::{write_bounds_of, write_range};
-use crate::sql_types::Range;
-use crate::{BoundPiece, BoundsOf, RangePieces};
+use crate::range_writing::write_range;
+use crate::sql_types::{Nullable, Range};
+use crate::{BoundPiece, RangePieces};
 use pgw_meta::deserialize::{self, FromSql, required};
 use pgw_meta::serialize::{self, ToSql};
 use pgw_meta::{Defaultable, PgMetadataLookup};
 use pgw_wire::{Output, PgValue};
 use std::alloc::Global;
 use std::num::NonZeroU32;
-use std::ops::{self, Bound, RangeFrom, RangeInclusive, RangeTo, RangeToInclusive};
+use std::ops::Bound;
 
 /// A bound whose value is read from its piece, as a field with this oid.
 fn read_bound<ST, T: FromSql<ST>>(
@@ -86,52 +86,11 @@ impl<ST, T: ToSql<ST>> ToSql<Range<ST>> for (Bound<T>, Bound<T>) {
     }
 }
 
-impl<ST, T: ToSql<ST>> ToSql<Range<ST>> for ops::Range<T> {
-    ghost writes = { WritesBoundsOf ⟦<ops::Range<T> as BoundsOf>⟧.is_lower
-        ⟦<ops::Range<T> as BoundsOf>⟧.is_upper T.writes };
+impl<ST, T: ToSql<ST>> ToSql<Nullable<Range<ST>>> for (Bound<T>, Bound<T>) {
+    ghost writes = { WritesRange T.writes };
 
-    /// As the pair of its bounds.
+    /// As a range that allows no null.
     fn to_sql<L: PgMetadataLookup>(&self, out: &mut Output<'_, L>) -> serialize::Result {
-        write_bounds_of::<ST, ops::Range<T>, L>(self, out)
-    }
-}
-
-impl<ST, T: ToSql<ST>> ToSql<Range<ST>> for RangeFrom<T> {
-    ghost writes = { WritesBoundsOf ⟦<RangeFrom<T> as BoundsOf>⟧.is_lower
-        ⟦<RangeFrom<T> as BoundsOf>⟧.is_upper T.writes };
-
-    /// As the pair of its bounds.
-    fn to_sql<L: PgMetadataLookup>(&self, out: &mut Output<'_, L>) -> serialize::Result {
-        write_bounds_of::<ST, RangeFrom<T>, L>(self, out)
-    }
-}
-
-impl<ST, T: ToSql<ST>> ToSql<Range<ST>> for RangeTo<T> {
-    ghost writes = { WritesBoundsOf ⟦<RangeTo<T> as BoundsOf>⟧.is_lower
-        ⟦<RangeTo<T> as BoundsOf>⟧.is_upper T.writes };
-
-    /// As the pair of its bounds.
-    fn to_sql<L: PgMetadataLookup>(&self, out: &mut Output<'_, L>) -> serialize::Result {
-        write_bounds_of::<ST, RangeTo<T>, L>(self, out)
-    }
-}
-
-impl<ST, T: ToSql<ST>> ToSql<Range<ST>> for RangeToInclusive<T> {
-    ghost writes = { WritesBoundsOf ⟦<RangeToInclusive<T> as BoundsOf>⟧.is_lower
-        ⟦<RangeToInclusive<T> as BoundsOf>⟧.is_upper T.writes };
-
-    /// As the pair of its bounds.
-    fn to_sql<L: PgMetadataLookup>(&self, out: &mut Output<'_, L>) -> serialize::Result {
-        write_bounds_of::<ST, RangeToInclusive<T>, L>(self, out)
-    }
-}
-
-impl<ST, T: ToSql<ST> + Drop> ToSql<Range<ST>> for RangeInclusive<T> {
-    ghost writes = { WritesBoundsOf ⟦<RangeInclusive<T> as BoundsOf>⟧.is_lower
-        ⟦<RangeInclusive<T> as BoundsOf>⟧.is_upper T.writes };
-
-    /// As the pair of its bounds.
-    fn to_sql<L: PgMetadataLookup>(&self, out: &mut Output<'_, L>) -> serialize::Result {
-        write_bounds_of::<ST, RangeInclusive<T>, L>(self, out)
+        write_range::<ST, T, L>(self.0.as_ref(), self.1.as_ref(), out)
     }
 }

@@ -13,11 +13,19 @@ impl NotNull for Numeric {}
 impl SingleValue for Numeric {}
 
 impl RangeElement for Numeric {
+    ghost RANGE_OID = { 3906 };
+
     const RANGE_OID: u32 = 3906;
+
+    ghost RANGE_ARRAY_OID = { 3907 };
 
     const RANGE_ARRAY_OID: u32 = 3907;
 
+    ghost MULTIRANGE_OID = { 4532 };
+
     const MULTIRANGE_OID: u32 = 4532;
+
+    ghost MULTIRANGE_ARRAY_OID = { 6151 };
 
     const MULTIRANGE_ARRAY_OID: u32 = 6151;
 }

@@ -49,11 +49,19 @@ impl NotNull for Integer {}
 impl SingleValue for Integer {}
 
 impl RangeElement for Integer {
+    ghost RANGE_OID = { 3904 };
+
     const RANGE_OID: u32 = 3904;
+
+    ghost RANGE_ARRAY_OID = { 3905 };
 
     const RANGE_ARRAY_OID: u32 = 3905;
 
+    ghost MULTIRANGE_OID = { 4451 };
+
     const MULTIRANGE_OID: u32 = 4451;
+
+    ghost MULTIRANGE_ARRAY_OID = { 6150 };
 
     const MULTIRANGE_ARRAY_OID: u32 = 6150;
 }
@@ -75,11 +83,19 @@ impl NotNull for BigInt {}
 impl SingleValue for BigInt {}
 
 impl RangeElement for BigInt {
+    ghost RANGE_OID = { 3926 };
+
     const RANGE_OID: u32 = 3926;
+
+    ghost RANGE_ARRAY_OID = { 3927 };
 
     const RANGE_ARRAY_OID: u32 = 3927;
 
+    ghost MULTIRANGE_OID = { 4536 };
+
     const MULTIRANGE_OID: u32 = 4536;
+
+    ghost MULTIRANGE_ARRAY_OID = { 6157 };
 
     const MULTIRANGE_ARRAY_OID: u32 = 6157;
 }

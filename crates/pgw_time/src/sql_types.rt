@@ -13,11 +13,19 @@ impl NotNull for Date {}
 impl SingleValue for Date {}
 
 impl RangeElement for Date {
+    ghost RANGE_OID = { 3912 };
+
     const RANGE_OID: u32 = 3912;
+
+    ghost RANGE_ARRAY_OID = { 3913 };
 
     const RANGE_ARRAY_OID: u32 = 3913;
 
+    ghost MULTIRANGE_OID = { 4535 };
+
     const MULTIRANGE_OID: u32 = 4535;
+
+    ghost MULTIRANGE_ARRAY_OID = { 6155 };
 
     const MULTIRANGE_ARRAY_OID: u32 = 6155;
 }
@@ -43,11 +51,19 @@ impl NotNull for Timestamp {}
 impl SingleValue for Timestamp {}
 
 impl RangeElement for Timestamp {
+    ghost RANGE_OID = { 3908 };
+
     const RANGE_OID: u32 = 3908;
+
+    ghost RANGE_ARRAY_OID = { 3909 };
 
     const RANGE_ARRAY_OID: u32 = 3909;
 
+    ghost MULTIRANGE_OID = { 4533 };
+
     const MULTIRANGE_OID: u32 = 4533;
+
+    ghost MULTIRANGE_ARRAY_OID = { 6152 };
 
     const MULTIRANGE_ARRAY_OID: u32 = 6152;
 }
@@ -63,11 +79,19 @@ impl NotNull for Timestamptz {}
 impl SingleValue for Timestamptz {}
 
 impl RangeElement for Timestamptz {
+    ghost RANGE_OID = { 3910 };
+
     const RANGE_OID: u32 = 3910;
+
+    ghost RANGE_ARRAY_OID = { 3911 };
 
     const RANGE_ARRAY_OID: u32 = 3911;
 
+    ghost MULTIRANGE_OID = { 4534 };
+
     const MULTIRANGE_OID: u32 = 4534;
+
+    ghost MULTIRANGE_ARRAY_OID = { 6153 };
 
     const MULTIRANGE_ARRAY_OID: u32 = 6153;
 }

@@ -1,17 +1,18 @@
-use Rattle.std.proofs.Common.{ℤ, ap, refl, length}
-use Rattle.pgw_wire.specs.declared.sql_error.SqlError.TheVariants.{NegativeSize, ElementBytes}
-use Rattle.pgw_nested.specs.Frames.{negative_length, past_the_end}
-use Rattle.pgw_nested.proofs.Cut.{signed_again}
+use Rattle.std.proofs.Common.{◌≡◌, ◌<◌, ◌^◌, ◌++◌, ℕ, false, List, length, Some, MatchResult, Result, Ok, Err, Bor}
+use Rattle.std.specs.Int.{to_be_bytes, w32}
+use Rattle.pgw_wire.specs.Cell.{frame}
+use Rattle.pgw_wire.specs.declared.sql_error.SqlError.{SqlError}
+use Rattle.pgw_nested.specs.Frames.{HasNoFrame, HasNoPiece}
+use Rattle.pgw_nested.proofs.Cut.{no_piece, piece_framed}
 use Rattle.pgw_nested.proofs.cuts.take_frame.Goals as goal
 
-pub returns-then-len-ge-NEGATIVE : goal.returns-then-len-ge-NEGATIVE
-returns-then-len-ge-NEGATIVE c =
-    let n = c.in_ok-len in
-    negative_length n.len n.rest.now n.ensures.0 c.if-len-ge-NEGATIVE.true n.ensures.1 (λ never. absurd (cc))
-    (ap NegativeSize (signed_again n.len c.cast_signed.result n.ensures.1 c.cast_signed.ensures))
+taken : (n : ℕ) (bytes rest : List ℕ) → bytes ≡ to_be_bytes w32 n ++ rest → n < 2 ^ 32 → (r : Result (Bor (List ℕ) × Bor (List ℕ)) SqlError)
+    → MatchResult r (λ x. (n < 2147483648) × (length x.0.now ≡ n) × (rest ≡ x.0.now ++ x.1.now)) (λ e. HasNoPiece n rest e)
+    → MatchResult r (λ x. (length x.0.now < 2147483648) × (bytes ≡ frame (Some x.0.now) ++ x.1.now)) (λ e. HasNoFrame false bytes e)
+taken n bytes rest is fits (Ok x) h = piece_framed n bytes rest x.0.now x.1.now is h
+taken n bytes rest is fits (Err e) h = no_piece false n bytes rest e is fits (λ never. absurd (cc)) h
 
-pub returns-in-None : goal.returns-in-None
-returns-in-None c =
+pub returns : goal.returns
+returns c =
     let n = c.in_ok-len in
-    past_the_end n.len n.rest.now n.ensures.0 c.if-len-ge-NEGATIVE.false (c.in-None.ensures.none.0 refl)
-    (ap (λ (z : ℤ). ElementBytes z (length n.rest.now)) (signed_again n.len c.cast_signed-in-None.result n.ensures.1 c.cast_signed-in-None.ensures))
+    taken n.len c.args.bytes.now n.rest.now n.ensures.0 n.ensures.1 c.take_sized.result c.take_sized.ensures

@@ -1,7 +1,8 @@
 use Rattle.std.proofs.Common.{ap}
 use Rattle.pgw_wire.proofs.Taking.{exit}
 use Rattle.pgw_wire.specs.declared.sql_error.SqlError.TheVariants.{Dimensions}
-use Rattle.pgw_nested.proofs.Begun.{cut_at_4, cut_at_5, too_many, none, one, told_again}
+use Rattle.pgw_nested.proofs.Begun.{cut_at_4, cut_at_5, too_many, none, one}
+use Rattle.pgw_nested.proofs.Cut.{told_again}
 use Rattle.pgw_nested.proofs.array_pieces.ArrayPieces.new.Goals as goal
 
 pub returns-then-dimensions-eq0 : goal.returns-then-dimensions-eq0

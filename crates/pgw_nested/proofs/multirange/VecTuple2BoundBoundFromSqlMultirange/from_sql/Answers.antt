@@ -5,7 +5,7 @@ use Rattle.pgw_meta.proofs.Reading.{refused, refused_too}
 use Rattle.pgw_nested.specs.Range.{IsRange, RefusesRange}
 use Rattle.pgw_nested.specs.Multirange.{RefusesMultirange}
 use Rattle.pgw_nested.specs.RangePieces.{ranges_of}
-use Rattle.pgw_nested.proofs.SoFar.{range_given, one_range_more, range_not_given, range_refused}
+use Rattle.pgw_nested.proofs.RangesRead.{range_given, one_range_more, range_not_given, range_refused}
 use Rattle.pgw_nested.proofs.multirange.VecTuple2BoundBoundFromSqlMultirange.from_sql.Goals as goal
 
 pub returns-in_err-piece : goal.returns-in_err-piece

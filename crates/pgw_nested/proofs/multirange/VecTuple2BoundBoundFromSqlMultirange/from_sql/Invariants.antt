@@ -1,7 +1,7 @@
 use Rattle.pgw_meta.specs.Reading.{ReadsPiece}
 use Rattle.pgw_nested.specs.Range.{IsRange}
 use Rattle.pgw_nested.specs.RangePieces.{ranges_of}
-use Rattle.pgw_nested.proofs.SoFar.{RangesSoFar}
+use Rattle.pgw_nested.proofs.RangesRead.{RangesSoFar}
 use Rattle.pgw_nested.proofs.multirange.VecTuple2BoundBoundFromSqlMultirange.from_sql.Given as goal
 
 abbrev pub invariant-bounds : goal.invariant-bounds
