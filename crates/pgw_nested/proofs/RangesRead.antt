@@ -1,5 +1,5 @@
 -- A multirange that is read range by range.
-use Rattle.std.proofs.Common.{◌≡◌, ℕ, ◌<◌, List, [], ◌∷◌, ◌++◌, length, Option, Some, Ok, refl, subst, arith}
+use Rattle.std.proofs.Common.{◌≡◌, ℕ, ◌<◌, List, [], ◌∷◌, ◌++◌, Option, Some, Ok, refl, subst, arith}
 use Rattle.std.specs.Borrow.{Bor}
 use Rattle.pgw_wire.specs.Cell.{Cell}
 use Rattle.pgw_wire.specs.declared.sql_error.SqlError.{SqlError}

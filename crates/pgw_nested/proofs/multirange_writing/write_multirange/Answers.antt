@@ -1,8 +1,6 @@
 use Rattle.std.proofs.Common.{take_all, rules, ◌+◌, [], ◌++◌, length, ap, ◌∙◌, sym, subst, append-nil, append_assoc, arith, take, drop, inr}
 use Rattle.std.specs.Int.{to_be_bytes, w32}
-use Rattle.pgw_meta.specs.Known.{known}
 use Rattle.pgw_nested.specs.Array.{Each}
-use Rattle.pgw_nested.specs.Multirange.{multirange_bytes}
 use Rattle.pgw_nested.specs.Frames.{frames}
 use Rattle.pgw_nested.specs.Written.{IsWrittenAs, IsRefusedWith, RefusesElements}
 use Rattle.pgw_nested.specs.RangeWritten.{WritesBoundsOf}
