@@ -62,7 +62,7 @@ piece_appends known t p old new bytes a = λ v e.
 -- ---- pieces of types that have no parts
 
 -- What such a piece is written as again is the canonical piece of what it is read as, whatever the oids are.
-leaf_again : (known : Known) (t : Shape) (p : List ℕ) → IsLeaf t → canonical_read t p ≡ canonical_of (canonical_piece known t) (read_piece t p)
+pub leaf_again : (known : Known) (t : Shape) (p : List ℕ) → IsLeaf t → canonical_read t p ≡ canonical_of (canonical_piece known t) (read_piece t p)
 leaf_again known (scalar s) p leaf = refl
 leaf_again known (nullable t) p leaf = absurd leaf
 leaf_again known (array t) p leaf = absurd leaf

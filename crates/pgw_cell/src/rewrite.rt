@@ -91,7 +91,7 @@ fn push_piece(t: &PgType, piece: &[u8], found: &FoundOids, out: &mut ByteBuffer)
 
 /// Appends the field of an array of so many elements, whose type has this oid, into the room that was made for it. A null is
 /// among them or none is, and the bytes are those of their fields.
-fn push_plain_array(oid: u32, count: u32, null: bool, elements: &[u8], out: &mut ByteBuffer)
+pub(crate) fn push_plain_array(oid: u32, count: u32, null: bool, elements: &[u8], out: &mut ByteBuffer)
     requires count { count ≤ 2147483647 }
     requires small { 20 + length elements.now ≤ 2147483647 }
     requires room { 24 + length elements.now ≤ out.old.spare }
@@ -125,7 +125,7 @@ fn push_array(element: &PgType, piece: &[u8], found: &FoundOids, out: &mut ByteB
 
 /// The same, element by element.
 #[cycle(rewriting)]
-fn push_other_array(element: &PgType, piece: &[u8], found: &FoundOids, out: &mut ByteBuffer)
+pub(crate) fn push_other_array(element: &PgType, piece: &[u8], found: &FoundOids, out: &mut ByteBuffer)
     requires { HasRoom (read_piece (array (shape element.now)) piece.now)
         (λ v. frame (Some (canonical_piece (known_of found.now) (array (shape element.now)) v))) out.old.spare }
     ensures { Appends (read_piece (array (shape element.now)) piece.now)

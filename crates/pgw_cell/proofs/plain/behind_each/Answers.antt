@@ -1,6 +1,6 @@
 use Rattle.std.proofs.Common.{◌∙◌, ◌||◌, ap}
 use Rattle.pgw_cell.proofs.PlainFields.{element_more}
-use Rattle.pgw_cell.proofs.plain.behind_elements.Goals as goal
+use Rattle.pgw_cell.proofs.plain.behind_each.Goals as goal
 
 pub loop-place-preserved : goal.loop-place-preserved
 loop-place-preserved c =
