@@ -6,7 +6,7 @@ use Rattle.pgw_meta.specs.Shape.{Shape}
 use Rattle.pgw_cell.specs.Value.{Value}
 use Rattle.pgw_tree.specs.Spells.{SpellsRow}
 use Rattle.pgw_copy.specs.Format.{IsField, AreFields, IsRow}
-use Rattle.pgw_tree.specs.Rewriting.{HasRowFields}
+use Rattle.pgw_tree.specs.Appending.{HasRowFields}
 use Rattle.pgw_copy.proofs.Fields.{field_once}
 
 -- A row spells no more values than it has fields.

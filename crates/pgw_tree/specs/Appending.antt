@@ -1,4 +1,4 @@
--- What the crate's own functions measure and rewrite: the fields that bytes begin with, by the cells that they are of.
+-- What the crate's own functions append: the canonical fields of the values that the fields in front of bytes spell.
 use Rattle.std.specs.Prelude.{◌≡◌, ℕ, ◌≤◌, ◌++◌, List, length}
 use Rattle.std.specs.List.{flat_map}
 use Rattle.pgw_wire.specs.Cell.{Cell, frame}
@@ -25,8 +25,14 @@ pub record HasRowFields (columns : List Shape) (cells : List Cell) (bytes : List
 abbrev pub canonical_fields : Known → List Shape → List Value → List ℕ
 canonical_fields known columns values = flat_map frame (canonical_cells known columns values)
 
--- The first cells of a row spell values that fit, whose canonical fields have so many bytes together.
-pub record MeasuresRow (known : Known) (most : ℕ) (columns : List Shape) (cells : List Cell) (size : ℕ) : Type 0 where
+-- In front of the rest stands a field for each column, which spells a value that fits, and their canonical fields were
+-- appended.
+pub record AppendsFields (known : Known) (most : ℕ) (columns : List Shape) (bytes rest old new : List ℕ) : Type 0 where
+  pub cells : List Cell
   pub values : List Value
+  pub fields : List ℕ
+  pub many : length cells ≡ length columns
+  pub each : AreFields cells fields
+  pub is : bytes ≡ fields ++ rest
   pub first : SpellsFit most columns cells values
-  pub counted : size ≡ length (canonical_fields known columns values)
+  pub wrote : new ≡ old ++ canonical_fields known columns values
