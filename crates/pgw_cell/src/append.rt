@@ -124,6 +124,7 @@ fn append_other_array(
 }
 
 /// The same of a piece of any type.
+#[cycle(appending)]
 #[inline(always)]
 fn append_piece(
     t: &PgType,
@@ -138,7 +139,7 @@ fn append_piece(
 {
     match t {
         PgType::Nullable(part) | PgType::Named(_, part) => {
-            append_piece(part, piece, most, found, out)
+            append_part(part, piece, most, found, out)
         }
         PgType::Array(element) => append_array(element, piece, most, found, out),
         _ => match written(t, piece) {
@@ -146,6 +147,24 @@ fn append_piece(
             Err(kind) => Err(AppendFault::Break(kind)),
         },
     }
+}
+
+/// The same, for the type that a nullable or named one stands on. It is no part of its caller, so that all other types are
+/// treated where they are called for.
+#[cycle(appending)]
+#[inline(never)]
+fn append_part(
+    t: &PgType,
+    piece: &[u8],
+    most: u32,
+    found: &FoundOids,
+    out: &mut ByteBuffer,
+) -> Result<(), AppendFault>
+    requires { most ≤ 2147483647 }
+    ensures { Appended (read_piece (shape t.now) piece.now) (piece_size (shape t.now))
+        (λ v. frame (Some (canonical_piece (known_of found.now) (shape t.now) v))) most out.old.bytes out.new.bytes result }
+{
+    append_piece(t, piece, most, found, out)
 }
 
 #[inline(always)]
