@@ -1,5 +1,5 @@
 -- What becomes of the canonical field of what was read of a piece or a cell.
-use Rattle.std.proofs.Common.{◌≡◌, ◌⊎◌, inl, inr, ◌≤◌, ◌<◌, ◌+◌, ℕ, Bool, List, ◌++◌, length, None, Some, Result, Ok, Err, OnOk, OnErr, Box, Global, refl, sym, ap, ◌∙◌, arith, subst, length-append}
+use Rattle.std.proofs.Common.{◌≡◌, ◌⊎◌, inl, inr, ◌≤◌, ◌<◌, ◌+◌, ℕ, Bool, List, ◌++◌, length, Some, Result, Ok, Err, OnOk, OnErr, Box, Global, refl, sym, ap, ◌∙◌, arith, subst, length-append}
 use Rattle.pgw_wire.specs.Cell.{Cell, frame}
 use Rattle.pgw_wire.specs.declared.kind.Break.{Break}
 use Rattle.pgw_meta.specs.Known.{Known}
@@ -20,7 +20,7 @@ use Rattle.pgw_cell.specs.Appending.{Appended, has_field, has_break, is_long, la
 use Rattle.pgw_cell.specs.declared.append.AppendFault.{AppendFault}
 use Rattle.pgw_cell.specs.declared.append.AppendFault.TheVariants.{Break as Broken, TooLong, NoMemory}
 use Rattle.pgw_cell.proofs.ArrayPieces.{frame_length}
-use Rattle.pgw_cell.proofs.Counted.{IsLeaf, piece_counted, size_ok, size_err}
+use Rattle.pgw_cell.proofs.Counted.{IsLeaf, piece_counted, size_ok}
 use Rattle.pgw_cell.proofs.Pieces.{piece_told, piece_written}
 use Rattle.pgw_cell.proofs.PlainFields.{ReadsPlain}
 use Rattle.pgw_cell.proofs.Reading.{value_again, value_refused, value_spelled, value_broken}

@@ -43,7 +43,7 @@ canonical_of canonical (Err kind) = Err kind
 abbrev pub scalar_read : Scalar → List ℕ → Result (List ℕ) Break
 scalar_read s p = canonical_of (spelling s).canonical ((spelling s).read p)
 
--- the same of any type: no other has pieces here
+-- the same by the type, where no other type than these has pieces
 abbrev pub canonical_read : Shape → List ℕ → Result (List ℕ) Break
 canonical_read (scalar s) = scalar_read s
 canonical_read _ = λ p. Err Size

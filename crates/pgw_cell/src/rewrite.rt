@@ -111,12 +111,20 @@ fn push_head(size: u32, flags: u32, oid: u32, count: u32, out: &mut ByteBuffer)
     let [e, f, g, h] = flags.to_be_bytes();
     let [i, j, k, l] = oid.to_be_bytes();
     let [m, n, o, p] = count.to_be_bytes();
-    out.push_reserved(&[a, b, c, d, 0, 0, 0, 1, e, f, g, h, i, j, k, l, m, n, o, p, 0, 0, 0, 1]);
+    out.push_reserved(&[
+        a, b, c, d, 0, 0, 0, 1, e, f, g, h, i, j, k, l, m, n, o, p, 0, 0, 0, 1,
+    ]);
 }
 
 /// Appends the field of an array of so many elements, whose type has this oid, into the room that was made for it. A null is
 /// among them or none is, and the bytes are those of their fields.
-pub(crate) fn push_plain_array(oid: u32, count: u32, null: bool, elements: &[u8], out: &mut ByteBuffer)
+pub(crate) fn push_plain_array(
+    oid: u32,
+    count: u32,
+    null: bool,
+    elements: &[u8],
+    out: &mut ByteBuffer,
+)
     requires small { 20 + length elements.now ≤ 2147483647 }
     requires room { 24 + length elements.now ≤ out.old.spare }
     ensures bytes { out.new.bytes
@@ -146,7 +154,12 @@ fn push_array(element: &PgType, piece: &[u8], found: &FoundOids, out: &mut ByteB
 
 /// The same, element by element.
 #[cycle(rewriting)]
-pub(crate) fn push_other_array(element: &PgType, piece: &[u8], found: &FoundOids, out: &mut ByteBuffer)
+pub(crate) fn push_other_array(
+    element: &PgType,
+    piece: &[u8],
+    found: &FoundOids,
+    out: &mut ByteBuffer,
+)
     requires { HasRoom (read_piece (array (shape element.now)) piece.now)
         (λ v. frame (Some (canonical_piece (known_of found.now) (array (shape element.now)) v))) out.old.spare }
     ensures { Appends (read_piece (array (shape element.now)) piece.now)

@@ -1,4 +1,4 @@
-use Rattle.std.proofs.Common.{◌∙◌, ℕ, List, length, Some, Result, Ok, Err, refl, sym, ap, arith, subst}
+use Rattle.std.proofs.Common.{◌∙◌, ℕ, List, length, Some, Result, Err, refl, sym, ap, arith, subst}
 use Rattle.pgw_wire.specs.Cell.{frame}
 use Rattle.pgw_wire.specs.declared.kind.Break.{Break}
 use Rattle.pgw_meta.specs.NamedOids.{known_of}

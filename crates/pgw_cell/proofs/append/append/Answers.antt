@@ -1,5 +1,5 @@
 use Rattle.std.proofs.Common.{◌∙◌, Bool, Ok, Err, None, refl, sym, ap, subst, arith}
-use Rattle.pgw_wire.specs.Cell.{cell_of, frame}
+use Rattle.pgw_wire.specs.Cell.{cell_of}
 use Rattle.pgw_wire.specs.declared.cell.RawCell.{RawCell}
 use Rattle.pgw_wire.specs.declared.kind.Break.TheVariants.{Null}
 use Rattle.pgw_wire.specs.Room.{Room}

@@ -1,4 +1,3 @@
-use Rattle.std.specs.Prelude.{Ok}
 use Rattle.pgw_wire.specs.Cell.{cell_of}
 use Rattle.pgw_meta.specs.NamedOids.{known_of}
 use Rattle.pgw_meta.specs.Types.{shape}

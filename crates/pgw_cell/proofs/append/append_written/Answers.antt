@@ -1,4 +1,4 @@
-use Rattle.std.proofs.Common.{◌∙◌, ◌++◌, length, Some, Ok, Err, refl, sym, ap, arith}
+use Rattle.std.proofs.Common.{◌∙◌, ◌++◌, length, Some, Ok, Err, refl, ap, arith}
 use Rattle.std.specs.Int.{to_be_bytes, w32}
 use Rattle.pgw_wire.specs.Cell.{frame}
 use Rattle.pgw_wire.proofs.Taking.{exit}

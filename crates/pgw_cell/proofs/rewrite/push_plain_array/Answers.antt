@@ -1,4 +1,4 @@
-use Rattle.std.proofs.Common.{◌≡◌, ◌+◌, ◌++◌, ℕ, length, sym, ap, ◌∙◌, append_assoc}
+use Rattle.std.proofs.Common.{◌+◌, ◌++◌, ℕ, length, sym, ap, ◌∙◌, append_assoc}
 use Rattle.std.specs.Int.{to_be_bytes, w32}
 use Rattle.pgw_nested.specs.Array.{array_head, flags_of}
 use Rattle.pgw_cell.proofs.Rewriting.{plain_length}

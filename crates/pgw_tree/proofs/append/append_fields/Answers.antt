@@ -1,4 +1,4 @@
-use Rattle.std.proofs.Common.{◌+◌, Ok, Err, refl, ap, arith}
+use Rattle.std.proofs.Common.{Err, refl, ap, arith}
 use Rattle.std.proofs.lemmas.List.{length-map}
 use Rattle.pgw_wire.specs.Cell.{cell_of}
 use Rattle.pgw_meta.specs.NamedOids.{known_of}
