@@ -1,0 +1,10 @@
+//! The notation of PostgreSQL's types: the text that a type is written as, read into its tree.
+#![tactic(auto)]
+
+mod fault;
+mod names;
+mod reading;
+mod tokens;
+
+pub use fault::TypeFault;
+pub use reading::parse_type;

@@ -1,0 +1,279 @@
+ghost use Rattle.std.specs.Prelude.{◌≡◌, ◌⊎◌, [], ◌∷◌, Some, Ok, Err, option_map, length, nat_le, IfOk, IfErr, MatchResult};
+ghost use Rattle.pgw_meta.specs.Keys.{owned_key};
+ghost use Rattle.pgw_meta.specs.Shape.{Shape, composite};
+ghost use Rattle.pgw_meta.specs.Types.{shape};
+ghost use Rattle.pgw_notation.specs.Faults.{IsTextOf, IsFaultOf};
+ghost use Rattle.pgw_notation.specs.Reading.{no_type, behind_at, behind_name, behind_point, behind_key, behind_colon, behind_type, in_mode, read_token, read_tokens, unless_deep, opened, ended, start, Answers};
+ghost use Rattle.pgw_notation.specs.Tokens.{tokens};
+ghost use Rattle.pgw_notation.specs.Views.{token_of, frame_of, frames_of, state_of};
+
+use crate::TypeFault;
+use crate::names::{is_name, type_named};
+use crate::tokens::{Token, token_at};
+use pgw_meta::{PgType, TypeKey, TypeList};
+use std::alloc::Global;
+
+/// How many records are open at most, and how many suffixes stand behind a base.
+const DEPTH_MAX: usize = 31;
+
+/// A record whose `)` is still to come.
+#[derive(Drop)]
+struct Open {
+    /// The key in front of its `(`.
+    key: Option<TypeKey>,
+    /// Its components so far.
+    parts: TypeList,
+}
+
+/// What stands in front of the next token, in the innermost record.
+#[derive(Drop)]
+enum Front<'a> {
+    /// Nothing: a type has to come.
+    Start,
+    /// `@`.
+    BehindAt,
+    /// `@` and a name, which may be that of a schema.
+    BehindName(&'a str),
+    /// `@`, the name of a schema and a point.
+    BehindPoint(&'a str),
+    /// `@` and a whole key, of a schema and a name.
+    BehindKey(&'a str, &'a str),
+    /// `@`, a key and a colon.
+    BehindColon(TypeKey),
+    /// A type, and how many suffixes stand behind its base.
+    BehindType(PgType, usize),
+}
+
+/// Opens a record.
+fn open_record<'a>(
+    alloc: Global,
+    open: &mut Vec<Open>,
+    key: Option<TypeKey>,
+    place: usize,
+) -> Result<Front<'a>, TypeFault>
+    ensures { Answers (λ front. state_of open.new.items front) result
+        (unless_deep place (nat_le 31 (length (frames_of open.old.items)))
+        (Some (opened (option_map owned_key key) (frames_of open.old.items)))) }
+{
+    if open.len() >= DEPTH_MAX {
+        return Err(TypeFault::TooDeep { place });
+    }
+    open.push(Open {
+        key,
+        parts: TypeList::new(alloc),
+    })?;
+    Ok(Front::Start)
+}
+
+/// The record, with its key where it has one.
+fn record_of(alloc: Global, innermost: Open, last: PgType) -> Result<PgType, TypeFault>
+    ensures { Answers shape result (Ok (ended (frame_of innermost) (shape last))) }
+{
+    let Open { key, mut parts } = innermost;
+    parts.push(last)?;
+    let t = PgType::Record(parts);
+    match key {
+        None => Ok(t),
+        Some(key) => Ok(PgType::Named(key, Box::new(alloc, t)?)),
+    }
+}
+
+/// Reads a token where a type has to come.
+fn read_base<'a>(
+    alloc: Global,
+    open: &mut Vec<Open>,
+    token: Token<'a>,
+    place: usize,
+) -> Result<Front<'a>, TypeFault>
+    ensures { Answers (λ front. state_of open.new.items front) result
+        (read_token place (in_mode (frames_of open.old.items) no_type) (token_of token.entry)) }
+{
+    match token {
+        Token::Word(name) => match type_named(alloc, name)? {
+            Some(t) => Ok(Front::BehindType(t, 0)),
+            None => Err(TypeFault::Syntax { place }),
+        },
+        Token::Opening => open_record(alloc, open, None, place),
+        Token::At => Ok(Front::BehindAt),
+        _ => Err(TypeFault::Syntax { place }),
+    }
+}
+
+/// Reads a token behind `@`.
+fn read_first_name<'a>(
+    open: &mut Vec<Open>,
+    token: Token<'a>,
+    place: usize,
+) -> Result<Front<'a>, TypeFault>
+    ensures { Answers (λ front. state_of open.new.items front) result
+        (read_token place (in_mode (frames_of open.old.items) behind_at) (token_of token.entry)) }
+{
+    match token {
+        Token::Word(name) if is_name(name) => Ok(Front::BehindName(name)),
+        _ => Err(TypeFault::Syntax { place }),
+    }
+}
+
+/// Reads a token behind `@` and a name.
+fn read_behind_name<'a>(
+    alloc: Global,
+    open: &mut Vec<Open>,
+    first: &'a str,
+    token: Token<'a>,
+    place: usize,
+) -> Result<Front<'a>, TypeFault>
+    ensures { Answers (λ front. state_of open.new.items front) result
+        (read_token place (in_mode (frames_of open.old.items) (behind_name first.now)) (token_of token.entry)) }
+{
+    match token {
+        Token::Point => Ok(Front::BehindPoint(first)),
+        Token::Colon => Ok(Front::BehindColon(TypeKey::new(alloc, None, first)?)),
+        _ => Err(TypeFault::Syntax { place }),
+    }
+}
+
+/// Reads a token behind `@`, a schema and a point.
+fn read_second_name<'a>(
+    open: &mut Vec<Open>,
+    schema: &'a str,
+    token: Token<'a>,
+    place: usize,
+) -> Result<Front<'a>, TypeFault>
+    ensures { Answers (λ front. state_of open.new.items front) result
+        (read_token place (in_mode (frames_of open.old.items) (behind_point schema.now)) (token_of token.entry)) }
+{
+    match token {
+        Token::Word(name) if is_name(name) => Ok(Front::BehindKey(schema, name)),
+        _ => Err(TypeFault::Syntax { place }),
+    }
+}
+
+/// Reads a token behind `@`, a schema, a point and a name.
+fn read_colon<'a>(
+    alloc: Global,
+    open: &mut Vec<Open>,
+    schema: &'a str,
+    name: &'a str,
+    token: Token<'a>,
+    place: usize,
+) -> Result<Front<'a>, TypeFault>
+    ensures { Answers (λ front. state_of open.new.items front) result
+        (read_token place (in_mode (frames_of open.old.items) (behind_key (record { schema = Some schema.now; name = name.now }))) (token_of token.entry)) }
+{
+    match token {
+        Token::Colon => Ok(Front::BehindColon(TypeKey::new(alloc, Some(schema), name)?)),
+        _ => Err(TypeFault::Syntax { place }),
+    }
+}
+
+/// Reads a token behind `@`, a key and a colon.
+fn read_named<'a>(
+    alloc: Global,
+    open: &mut Vec<Open>,
+    key: TypeKey,
+    token: Token<'a>,
+    place: usize,
+) -> Result<Front<'a>, TypeFault>
+    ensures { Answers (λ front. state_of open.new.items front) result
+        (read_token place (in_mode (frames_of open.old.items) (behind_colon (owned_key key))) (token_of token.entry)) }
+{
+    match token {
+        Token::Word("text") => {
+            let t = PgType::Named(key, Box::new(alloc, PgType::Text)?);
+            Ok(Front::BehindType(t, 0))
+        }
+        Token::Opening => open_record(alloc, open, Some(key), place),
+        _ => Err(TypeFault::Syntax { place }),
+    }
+}
+
+/// Reads a token behind a type.
+fn read_behind_type<'a>(
+    alloc: Global,
+    open: &mut Vec<Open>,
+    t: PgType,
+    suffixes: usize,
+    token: Token<'a>,
+    place: usize,
+) -> Result<Front<'a>, TypeFault>
+    ensures { Answers (λ front. state_of open.new.items front) result
+        (read_token place (in_mode (frames_of open.old.items) (behind_type suffixes (shape t))) (token_of token.entry)) }
+{
+    match token {
+        Token::Question => {
+            if suffixes >= DEPTH_MAX {
+                return Err(TypeFault::TooDeep { place });
+            }
+            let t = PgType::Nullable(Box::new(alloc, t)?);
+            Ok(Front::BehindType(t, suffixes + 1))
+        }
+        Token::Brackets => {
+            if suffixes >= DEPTH_MAX {
+                return Err(TypeFault::TooDeep { place });
+            }
+            let t = PgType::Array(Box::new(alloc, t)?);
+            Ok(Front::BehindType(t, suffixes + 1))
+        }
+        Token::Comma => {
+            let Some(record) = open.last_mut() else {
+                return Err(TypeFault::Syntax { place });
+            };
+            record.parts.push(t)?;
+            Ok(Front::Start)
+        }
+        Token::Closing => {
+            let Some(record) = open.pop() else {
+                return Err(TypeFault::Syntax { place });
+            };
+            Ok(Front::BehindType(record_of(alloc, record, t)?, 0))
+        }
+        _ => Err(TypeFault::Syntax { place }),
+    }
+}
+
+/// Reads a token at this place behind what stands in front of it.
+fn read_token<'a>(
+    alloc: Global,
+    open: &mut Vec<Open>,
+    front: Front<'a>,
+    token: Token<'a>,
+    place: usize,
+) -> Result<Front<'a>, TypeFault>
+    ensures { Answers (λ next. state_of open.new.items next) result
+        (read_token place (state_of open.old.items front.entry) (token_of token.entry)) }
+{
+    match front {
+        Front::Start => read_base(alloc, open, token, place),
+        Front::BehindAt => read_first_name(open, token, place),
+        Front::BehindName(first) => read_behind_name(alloc, open, first, token, place),
+        Front::BehindPoint(schema) => read_second_name(open, schema, token, place),
+        Front::BehindKey(schema, name) => read_colon(alloc, open, schema, name, token, place),
+        Front::BehindColon(key) => read_named(alloc, open, key, token, place),
+        Front::BehindType(t, suffixes) => {
+            read_behind_type(alloc, open, t, suffixes, token, place)
+        }
+    }
+}
+
+/// The type that a text ends with.
+fn read_text(alloc: Global, text: &str) -> Result<PgType, TypeFault>
+    ensures { Answers shape result (read_tokens 0 start (tokens text.now)) }
+{
+    let mut open = Vec::new(alloc);
+    let mut front = Front::Start;
+    let mut place = 0;
+    while let Some((token, behind)) = token_at(text, place) {
+        front = read_token(alloc, &mut open, front, token, place)?;
+        place = behind;
+    }
+    match front {
+        Front::BehindType(t, _) if open.is_empty() => Ok(t),
+        _ => Err(TypeFault::Syntax { place }),
+    }
+}
+
+/// The type that a text is.
+pub fn parse_type(alloc: Global, text: &str) -> Result<PgType, TypeFault> {
+    read_text(alloc, text)
+}
+
