@@ -1,6 +1,6 @@
 -- Which text a type is written as, and what is wrong with a text that none is.
 use Rattle.std.specs.Prelude.{ℕ, ◌≡◌, ◌-◌, ◌⊎◌, List, [], ◌∷◌, ◌++◌, length, reverse, Bool, true, false, nat_le, ⊤}
-use Rattle.std.specs.List.{count_by, take_while}
+use Rattle.std.specs.List.{count_by, prefix_len}
 use Rattle.pgw_meta.specs.Shape.{Shape}
 use Rattle.pgw_notation.specs.Tokens.{Token, question, brackets, opening, closing, tokens, joined}
 use Rattle.pgw_notation.specs.Notation.{notation, IsWritable}
@@ -39,7 +39,7 @@ open_records ts = count_by is_opening ts - count_by is_closing ts
 
 -- how many suffixes stand at the end of these tokens
 abbrev pub last_suffixes : List Token → ℕ
-last_suffixes ts = length (take_while is_suffix (reverse ts))
+last_suffixes ts = prefix_len is_suffix (reverse ts)
 
 -- whether a token behind these is a `(` while 31 records are open, or a suffix behind 31 others
 abbrev pub is_too_deep : List Token → Token → Bool
