@@ -1,7 +1,12 @@
 -- What the first token of a text is.
-use Rattle.std.proofs.Common.{◌≡◌, ◌+◌, ◌<◌, ◌≤◌, ◌==◌, ℕ, zero, suc, List, [], ◌∷◌, ◌++◌, length, get_or, take, drop, codes, Bool, true, false, refl, sym, ap, ◌∙◌, append_assoc, eqb-true, arith, if◌then◌else◌}
+use Rattle.std.proofs.Common.{◌≡◌, ◌+◌, ◌-◌, ◌<◌, ◌≤◌, ◌==◌, ◌&&◌, ℕ, zero, suc, List, [], ◌∷◌, ◌++◌, length, get_or, take, drop, Bool, true, false, refl, sym, ap, ap₂, ◌∙◌, subst, eq-eqb, eqb-true, arith, if◌then◌else◌}
+use Rattle.std.proofs.lemmas.Bool.{false≢true, and_parts}
+use Rattle.std.proofs.lemmas.Bool.Decides.{nat_tests}
+use Rattle.std.proofs.lemmas.List.{take_rest, drop-drop, get_or-drop, length-drop}
+use Rattle.std.proofs.lemmas.Str.{IsCharBoundary-after_ascii}
 use Rattle.std.specs.Bool.{IsTrue, IsFalse}
-use Rattle.std.specs.List.{flat_map}
+use Rattle.std.specs.List.{starts_with}
+use Rattle.std.specs.Str.{IsUtf8, IsCharBoundary}
 use Rattle.pgw_notation.specs.Names.{is_name_byte}
 use Rattle.pgw_notation.specs.Tokens.{Token, word, question, brackets, opening, closing, comma, at_sign, point, colon, other, token_bytes, joined, mark, behind_letter, behind_bracket, behind_byte, tokens}
 
@@ -117,3 +122,92 @@ mark_first byte bytes h other_behind = rw h (by (byte == 91) refl)
     by : (b : Bool) → (byte == 91) ≡ b → (if b then behind_bracket (tokens bytes) else mark byte ∷ tokens bytes) ≡ mark byte ∷ tokens bytes
     by true is = let same = eqb-true byte 91 is in open_bracket bytes (other_behind same) ∙ ap (λ b. mark b ∷ tokens bytes) (sym same)
     by false is = refl
+
+-- A letter, a digit or `_` is one of ASCII.
+name_ascii : (byte : ℕ) → IsTrue (is_name_byte byte) → byte < 128
+name_ascii byte h = grind (arith, nat_tests)
+
+starts_brackets : (bytes : List ℕ) → starts_with ◌==◌ bytes (91 ∷ 93 ∷ []) ≡ true → tokens bytes ≡ brackets ∷ tokens (drop 2 bytes)
+starts_brackets [] h = absurd (false≢true h)
+starts_brackets (b ∷ []) h = absurd (by (91 == b) h)
+  where
+    by : (t : Bool) → (t && false) ≡ true → ⊥
+    by true k = false≢true k
+    by false k = false≢true k
+starts_brackets (b ∷ c ∷ bytes) h =
+    let first = and_parts (91 == b) ((93 == c) && true) h in
+    let second = and_parts (93 == c) true first.1 in
+    ap₂ (λ x y. tokens (x ∷ y ∷ bytes)) (sym (eqb-true 91 b first.0)) (sym (eqb-true 93 c second.0))
+
+starts_mark : (bytes : List ℕ) (first : ℕ) → 0 < length bytes → first ≡ get_or bytes 0 first → IsFalse (is_name_byte first) → starts_with ◌==◌ bytes (91 ∷ 93 ∷ []) ≡ false
+    → tokens bytes ≡ mark first ∷ tokens (drop 1 bytes)
+starts_mark [] first some is h other_start = absurd (omega (arith, some))
+starts_mark (b ∷ bytes) first some is h other_start =
+    ap (λ x. tokens (x ∷ bytes)) (sym is) ∙ mark_first first bytes h (λ e k. false≢true (sym other_start ∙ both bytes (sym is ∙ e) k))
+  where
+    both : (rest : List ℕ) → b ≡ 91 → get_or rest 0 0 ≡ 93 → starts_with ◌==◌ (b ∷ rest) (91 ∷ 93 ∷ []) ≡ true
+    both [] e k = absurd (omega (arith, k))
+    both (c ∷ rest) e k = rw (eq-eqb 91 b (sym e), eq-eqb 93 c (sym k)) refl
+
+-- a text from a place on, as the program cuts it
+abbrev pub rest_of : List ℕ → ℕ → List ℕ
+rest_of bytes place = take (length bytes - place) (drop place bytes)
+
+rest_is : (text bytes : List ℕ) (place : ℕ) → bytes ≡ text → rest_of bytes place ≡ drop place text
+rest_is text bytes place e = take_rest bytes place ∙ ap (drop place) e
+
+-- `[]` at a place of a text
+pub brackets_at : (text bytes : List ℕ) (place : ℕ) → bytes ≡ text → starts_with ◌==◌ (rest_of bytes place) (91 ∷ 93 ∷ []) ≡ true
+    → tokens (drop place text) ≡ brackets ∷ tokens (drop (place + 2) text)
+brackets_at text bytes place e h =
+    starts_brackets (drop place text) (ap (λ bs. starts_with ◌==◌ bs (91 ∷ 93 ∷ [])) (sym (rest_is text bytes place e)) ∙ h)
+    ∙ ap (λ bs. brackets ∷ tokens bs) (drop-drop 2 place text)
+
+-- another byte at a place of a text
+pub mark_at : (text bytes : List ℕ) (place first : ℕ) → bytes ≡ text → 0 < length (rest_of bytes place)
+    → first ≡ get_or (rest_of bytes place) 0 first → IsFalse (is_name_byte first)
+    → starts_with ◌==◌ (rest_of bytes place) (91 ∷ 93 ∷ []) ≡ false
+    → tokens (drop place text) ≡ mark first ∷ tokens (drop (place + 1) text)
+mark_at text bytes place first e some is h other_start =
+    let same = rest_is text bytes place e in
+    starts_mark (drop place text) first (rw same at some) (rw same at is) h (rw same at other_start)
+    ∙ ap (λ bs. mark first ∷ tokens bs) (drop-drop 1 place text)
+
+-- what `run_len` tells of a run of bytes
+pub record IsRun (bytes : List ℕ) (n : ℕ) : Type 0 where
+  pub within : n ≤ length bytes
+  pub names : (k : ℕ) → k < n → IsTrue (is_name_byte (get_or bytes k 0))
+  pub longest : n < length bytes → IsFalse (is_name_byte (get_or bytes n 0))
+  pub some : 0 < length bytes
+  pub first : IsTrue (is_name_byte (get_or bytes 0 0))
+
+pub run_in : (text bytes : List ℕ) (place n first : ℕ) → bytes ≡ text → n ≤ length (rest_of bytes place)
+    → ((k : ℕ) → k < n → IsTrue (is_name_byte (get_or (rest_of bytes place) k 0)))
+    → (n < length (rest_of bytes place) → IsFalse (is_name_byte (get_or (rest_of bytes place) n 0)))
+    → 0 < length (rest_of bytes place) → first ≡ get_or (rest_of bytes place) 0 0 → true ≡ is_name_byte first → IsRun (drop place text) n
+run_in text bytes place n first e within names longest some is letter =
+    let run : IsRun (rest_of bytes place) n = record {
+      within = within;
+      names = names;
+      longest = longest;
+      some = some;
+      first = ap is_name_byte (sym is) ∙ sym letter;
+    } in
+    subst (λ bs. IsRun bs n) (rest_is text bytes place e) run
+
+-- a word at a place of a text
+pub run_at : (text : List ℕ) (place n : ℕ) → IsRun (drop place text) n → tokens (drop place text) ≡ word (take n (drop place text)) ∷ tokens (drop (place + n) text)
+run_at text place zero run = absurd (false≢true (sym (run.longest run.some) ∙ run.first))
+run_at text place (suc n) run =
+    run_first (drop place text) n run.within run.names run.longest
+    ∙ ap (λ bs. word (take (suc n) (drop place text)) ∷ tokens bs) (drop-drop (suc n) place text)
+
+-- A run ends where a text may be cut.
+pub run_ends : (text : List ℕ) (place n : ℕ) → IsUtf8 text → IsRun (drop place text) n → IsCharBoundary text (place + n)
+run_ends text place zero utf8 run = absurd (false≢true (sym (run.longest run.some) ∙ run.first))
+run_ends text place (suc n) utf8 run =
+    let within = run.within in
+    let len = length-drop place text in
+    let last : get_or text (place + n) 0 < 128 = subst (λ b. b < 128) (get_or-drop place text n 0) (name_ascii _ (run.names n (omega arith))) in
+    let end : place + n + 1 ≡ place + suc n = omega arith in
+    subst (IsCharBoundary text) end (IsCharBoundary-after_ascii text (place + n) utf8 (omega (arith, within, len)) last)
