@@ -1,4 +1,4 @@
-ghost use Rattle.std.specs.Prelude.{◌≡◌, ◌⊎◌, [], ◌∷◌, Some, Ok, Err, option_map, length, nat_le, IfOk, IfErr, MatchResult};
+ghost use Rattle.std.specs.Prelude.{◌≡◌, ◌≢◌, ◌⊎◌, [], ◌∷◌, Some, Ok, Err, option_map, length, nat_le, IfOk, IfErr, MatchResult};
 ghost use Rattle.pgw_meta.specs.Keys.{owned_key};
 ghost use Rattle.pgw_meta.specs.Shape.{Shape, composite};
 ghost use Rattle.pgw_meta.specs.Types.{shape};
@@ -255,7 +255,7 @@ fn read_token<'a>(
     }
 }
 
-/// The type that a text ends with.
+/// The type of the tokens of a text.
 fn read_text(alloc: Global, text: &str) -> Result<PgType, TypeFault>
     ensures { Answers shape result (read_tokens 0 start (tokens text.now)) }
 {
@@ -272,8 +272,32 @@ fn read_text(alloc: Global, text: &str) -> Result<PgType, TypeFault>
     }
 }
 
-/// The type that a text is.
-pub fn parse_type(alloc: Global, text: &str) -> Result<PgType, TypeFault> {
+/// Reads the text of a type:
+///
+/// ```text
+/// type = base suffix*                                    suffix = "?" | "[]"
+/// base = name | record | "@" key ":" ("text" | record)   key = [schema "."] name
+/// record = "(" type ("," type)* ")"
+/// ```
+///
+/// A name of a type is that of a scalar, as `int4`, of a range, as `int4range`, or of a multirange, as `int4multirange`. `?`
+/// behind a type says that it may be null, and `[]` that it is an array of such elements. The name of a schema or behind `@`
+/// has 1 to 63 letters of ASCII, digits and `_`. The text has no spaces. It says nothing of which types may stand in a
+/// column: `Schema::new` does.
+///
+/// The error is the first thing that is wrong, or `NoMemory`: `Syntax` where a token begins that no type's text goes on
+/// with, or the text ends too early, and `TooDeep` where a token that may follow is a `(` while 31 records are open, or a
+/// suffix behind 31 others of one base. The time is linear in the length of the text.
+#[tactic(auto, using(crate::proofs::Exact::answers_text, crate::proofs::Exact::answers_fault, crate::proofs::Exact::answers_each_text, crate::proofs::Exact::answers_each_fault))]
+pub fn parse_type(alloc: Global, text: &str) -> Result<PgType, TypeFault>
+    ensures text { IfOk result (λ t. IsTextOf (shape t) text.now) }
+    ensures fault { IfErr result (λ fault. IsFaultOf fault text.now) }
+
+    // Unless memory is refused, the text of a type is read as that type, and the first fault is the answer.
+    ensures each_text { (t : Shape) → IsTextOf t text.now
+        → MatchResult result (λ u. shape u ≡ t) (λ e. e ≡ TypeFault.NoMemory) }
+    ensures each_fault { (fault : TypeFault) → fault ≢ TypeFault.NoMemory → IsFaultOf fault text.now
+        → (result ≡ Err fault) ⊎ (result ≡ Err TypeFault.NoMemory) }
+{
     read_text(alloc, text)
 }
-
