@@ -288,7 +288,6 @@ fn read_text(alloc: Global, text: &str) -> Result<PgType, TypeFault>
 /// The error is the first thing that is wrong, or `NoMemory`: `Syntax` where a token begins that no type's text goes on
 /// with, or the text ends too early, and `TooDeep` where a token that may follow is a `(` while 31 records are open, or a
 /// suffix behind 31 others of one base. The time is linear in the length of the text.
-#[tactic(auto, using(crate::proofs::Exact::answers_text, crate::proofs::Exact::answers_fault, crate::proofs::Exact::answers_each_text, crate::proofs::Exact::answers_each_fault))]
 pub fn parse_type(alloc: Global, text: &str) -> Result<PgType, TypeFault>
     ensures text { IfOk result (λ t. IsTextOf (shape t) text.now) }
     ensures fault { IfErr result (λ fault. IsFaultOf fault text.now) }
