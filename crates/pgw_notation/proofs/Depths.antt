@@ -1,17 +1,15 @@
 -- A state counts the records that are open and the suffixes behind the last base, as the tokens in front of it say.
-use Rattle.std.proofs.Common.{◌≡◌, ◌+◌, ◌-◌, ℕ, suc, List, [], ◌∷◌, ◌++◌, length, reverse, cond, Option, None, Some, Bool, true, false, nat_le, refl, sym, ap, ◌∙◌, subst, append-nil, append_assoc, arith}
+use Rattle.std.proofs.Common.{◌≡◌, ◌+◌, ℕ, List, [], ◌∷◌, ◌++◌, length, cond, Option, None, Some, Bool, true, false, nat_le, refl, sym, ap, subst, arith}
 use Rattle.std.proofs.lemmas.List.{reverse-append}
 use Rattle.std.proofs.lemmas.List.Sums.{sum_by-append}
 use Rattle.std.proofs.lemmas.Option.{none-some}
 use Rattle.std.specs.Bool.{⊤}
 use Rattle.std.specs.List.{count_by, prefix_len}
-use Rattle.std.specs.Option.{option_and_then}
 use Rattle.std.specs.Str.{bytes_eq}
 use Rattle.std.specs.Prelude.{codes, if◌then◌else◌, option_map}
-use Rattle.pgw_meta.specs.Known.{Key}
 use Rattle.pgw_meta.specs.Shape.{Shape}
 use Rattle.pgw_notation.specs.Names.{is_name, type_named}
-use Rattle.pgw_notation.specs.Tokens.{Token, word, question, brackets, opening, closing, comma, at_sign, point, colon, other}
+use Rattle.pgw_notation.specs.Tokens.{Token, word, question, brackets, opening, closing, comma, at_sign, point, colon}
 use Rattle.pgw_notation.specs.Faults.{is_opening, is_closing, is_suffix, open_records, last_suffixes, is_too_deep}
 use Rattle.pgw_notation.specs.Reading.{Frame, Mode, no_type, behind_at, behind_name, behind_point, behind_key, behind_colon, behind_type, State, start, in_mode, step, is_deep}
 

@@ -3,8 +3,7 @@ use Rattle.std.proofs.Common.{◌≡◌, ◌+◌, ◌≢◌, ◌⊎◌, inl, inr
 use Rattle.std.proofs.lemmas.Bool.{false≢true}
 use Rattle.std.proofs.lemmas.Grind.{flat_map-append}
 use Rattle.std.proofs.lemmas.List.{length-append}
-use Rattle.std.proofs.lemmas.Option.{none-some, option_and_then_some}
-use Rattle.std.specs.List.{AllByRecursion}
+use Rattle.std.proofs.lemmas.Option.{none-some}
 use Rattle.std.specs.Option.{option_and_then}
 use Rattle.std.specs.Result.{IfOk, IfErr, MatchResult}
 use Rattle.pgw_meta.specs.Shape.{Shape}
@@ -13,12 +12,12 @@ use Rattle.pgw_meta.specs.declared.types.PgType.{PgType}
 use Rattle.pgw_notation.specs.Tokens.{Token, token_bytes, joined, tokens}
 use Rattle.pgw_notation.specs.Notation.{notation, IsWritable}
 use Rattle.pgw_notation.specs.Faults.{BeginType, WriteType, is_too_deep, IsShallow, IsTextOf, StandsAt, StopsAt, DeepensAt, IsFaultOf}
-use Rattle.pgw_notation.specs.Reading.{Frame, Mode, no_type, behind_at, behind_name, behind_point, behind_key, behind_colon, behind_type, State, start, in_mode, step, is_deep, unless_deep, read_token, read_end, read_on, read_tokens, Answers}
+use Rattle.pgw_notation.specs.Reading.{Frame, Mode, no_type, behind_at, behind_name, behind_point, behind_key, behind_colon, behind_type, State, start, in_mode, step, is_deep, unless_deep, read_end, read_on, read_tokens, Answers}
 use Rattle.pgw_notation.specs.declared.fault.TypeFault.{TypeFault}
 use Rattle.pgw_notation.specs.declared.fault.TypeFault.TheVariants.{Syntax, TooDeep, NoMemory}
 use Rattle.pgw_notation.proofs.FirstTokens.{joined_tokens}
 use Rattle.pgw_notation.proofs.Steps.{steps, steps_append, suffixes_of, accepts}
-use Rattle.pgw_notation.proofs.States.{Means, start_means, step_means, steps_mean, state_begins}
+use Rattle.pgw_notation.proofs.States.{Means, start_means, step_means, state_begins}
 use Rattle.pgw_notation.proofs.Depths.{Counts, start_counts, step_counts, deep_is}
 
 -- a token of some tokens and one more is the last, or one of the others
@@ -113,7 +112,7 @@ early_end text place st at r other =
     unwritten : WriteType (tokens text) → ⊥
     unwritten w =
         let same : Some (in_mode [] (behind_type (suffixes_of w.written) w.written)) ≡ Some st =
-            sym (writes w.written w.writable) ∙ ap (steps start) w.is ∙ r.reads in
+        sym (writes w.written w.writable) ∙ ap (steps start) w.is ∙ r.reads in
         other w.written cc
 
 -- another mode than behind a type
@@ -170,13 +169,38 @@ tokens_told (t ∷ after) text before place st is at r =
 told : (text : List ℕ) → Told text (read_tokens 0 start (tokens text))
 told text = tokens_told (tokens text) text [] 0 start refl refl start_reached
 
-read_is_text : (text : List ℕ) (t : Shape) → read_tokens 0 start (tokens text) ≡ Ok t → IsTextOf t text
+pub read_is_text : (text : List ℕ) (t : Shape) → read_tokens 0 start (tokens text) ≡ Ok t → IsTextOf t text
 unfolding Told
 read_is_text text t e = subst (Told text) e (told text)
 
-fault_is_first : (text : List ℕ) (fault : TypeFault) → read_tokens 0 start (tokens text) ≡ Err fault → IsFaultOf fault text
+pub fault_is_first : (text : List ℕ) (fault : TypeFault) → read_tokens 0 start (tokens text) ≡ Err fault → IsFaultOf fault text
 unfolding Told
 fault_is_first text fault e = subst (Told text) e (told text)
+
+unwanted : (place : ℕ) (deep : Bool) (s : Option State) (f : State → Result Shape TypeFault) → ((st : State) → f st ≡ Err NoMemory → ⊥) → read_on f (unless_deep place deep s) ≡ Err NoMemory → ⊥
+unwanted place deep None f h e = cc
+unwanted place true (Some st) f h e = cc
+unwanted place false (Some st) f h e = h st e
+
+end_unwanted : (place : ℕ) (fs : List Frame) (mode : Mode) → read_end place fs mode ≡ Err NoMemory → ⊥
+end_unwanted place [] (behind_type n t) e = cc
+end_unwanted place [] no_type e = cc
+end_unwanted place [] behind_at e = cc
+end_unwanted place [] (behind_name name) e = cc
+end_unwanted place [] (behind_point name) e = cc
+end_unwanted place [] (behind_key key) e = cc
+end_unwanted place [] (behind_colon key) e = cc
+end_unwanted place (frame ∷ fs) mode e = cc
+
+-- Reading tokens takes no memory.
+reads_without : (ts : List Token) (place : ℕ) (st : State) → read_tokens place st ts ≡ Err NoMemory → ⊥
+reads_without [] place st e = end_unwanted place st.open_ones st.mode e
+reads_without (t ∷ ts) place st e =
+    unwanted place (is_deep st.open_ones st.mode t) (step st.open_ones st.mode t) (λ n. read_tokens (place + length (token_bytes t)) n ts)
+    (λ n. reads_without ts (place + length (token_bytes t)) n) e
+
+never_memory : (text : List ℕ) → read_tokens 0 start (tokens text) ≡ Err NoMemory → ⊥
+never_memory text = reads_without (tokens text) 0 start
 
 passes_one : (place : ℕ) (st next : State) (t : Token) (ts : List Token) → is_deep st.open_ones st.mode t ≡ false → step st.open_ones st.mode t ≡ Some next
     → read_tokens place st (t ∷ ts) ≡ read_tokens (place + length (token_bytes t)) next ts
@@ -301,3 +325,33 @@ answers_each_fault text r a fault other h = by r a (first_fault_is_read text fau
     by (Err (Syntax place)) k e = inl (cc)
     by (Err (TooDeep place)) k e = inl (cc)
     by (Err NoMemory) k e = inr refl
+
+-- A text has a type or a fault.
+pub type_or_fault : (text : List ℕ) → ((t : Shape) × IsTextOf t text) ⊎ ((fault : TypeFault) × (fault ≢ NoMemory) × IsFaultOf fault text)
+type_or_fault text = by (read_tokens 0 start (tokens text)) refl
+  where
+    by : (r : Result Shape TypeFault) → read_tokens 0 start (tokens text) ≡ r → ((t : Shape) × IsTextOf t text) ⊎ ((fault : TypeFault) × (fault ≢ NoMemory) × IsFaultOf fault text)
+    by (Ok t) e = inl (t, read_is_text text t e)
+    by (Err (Syntax place)) e = inr (Syntax place, (λ same. cc), fault_is_first text (Syntax place) e)
+    by (Err (TooDeep place)) e = inr (TooDeep place, (λ same. cc), fault_is_first text (TooDeep place) e)
+    by (Err NoMemory) e = absurd (never_memory text e)
+
+pub one_type : (text : List ℕ) (t u : Shape) → IsTextOf t text → IsTextOf u text → t ≡ u
+one_type text t u h k =
+    let first = text_is_read text t h in
+    let second = text_is_read text u k in
+    cc
+
+pub one_fault : (text : List ℕ) (fault other : TypeFault) → fault ≢ NoMemory → other ≢ NoMemory → IsFaultOf fault text → IsFaultOf other text → fault ≡ other
+one_fault text fault other f o h k =
+    let first = first_fault_is_read text fault f h in
+    let second = first_fault_is_read text other o k in
+    cc
+
+pub not_both : (text : List ℕ) (t : Shape) (fault : TypeFault) → IsTextOf t text → IsFaultOf fault text → fault ≡ NoMemory
+not_both text t (Syntax place) h k = let first = text_is_read text t h in let second = stop_is_read text place k in absurd (cc)
+not_both text t (TooDeep place) h k = let first = text_is_read text t h in let second = depth_is_read text place k in absurd (cc)
+not_both text t NoMemory h k = refl
+
+pub one_text : (t : Shape) (text other : List ℕ) → IsTextOf t text → IsTextOf t other → text ≡ other
+one_text t text other h k = sym (joined_tokens text) ∙ ap joined (sym h.is ∙ k.is) ∙ joined_tokens other

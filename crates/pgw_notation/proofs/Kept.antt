@@ -1,16 +1,16 @@
 -- What the program keeps of records that are open, and of types that they have as components.
-use Rattle.std.proofs.Common.{◌≡◌, ◌-◌, ◌<◌, ℕ, suc, List, [], ◌∷◌, ◌++◌, length, get_or, set, map, reverse, Option, None, Some, option_map, Result, Ok, refl, sym, ap, ◌∙◌, subst, arith}
+use Rattle.std.proofs.Common.{◌≡◌, ◌-◌, ◌<◌, ℕ, List, [], ◌∷◌, ◌++◌, length, get_or, set, map, reverse, None, Some, option_map, Ok, refl, sym, ap, ◌∙◌, subst, arith}
 use Rattle.std.proofs.lemmas.List.{map_push, reverse-append, length-append}
 use Rattle.std.proofs.Math.Seq.{set-append_seam, get_or-append_seam}
 use Rattle.pgw_meta.specs.Keys.{owned_key}
-use Rattle.pgw_meta.specs.Shape.{Shape, composite, named, shape_then}
+use Rattle.pgw_meta.specs.Shape.{composite, named, shape_then}
 use Rattle.pgw_meta.specs.Types.{shape, shapes, types_of}
 use Rattle.pgw_meta.specs.declared.key.TypeKey.{TypeKey}
 use Rattle.pgw_meta.specs.declared.types.PgType.{PgType, Record}
 use Rattle.pgw_meta.specs.declared.types.TypeList.{TypeList}
 use Rattle.pgw_meta.proofs.Views.{shape_record}
 use Rattle.pgw_notation.specs.Tokens.{comma}
-use Rattle.pgw_notation.specs.Reading.{Frame, no_type, behind_type, with_part, keyed, extended, ended, in_mode, read_token}
+use Rattle.pgw_notation.specs.Reading.{no_type, behind_type, with_part, keyed, ended, in_mode, read_token}
 use Rattle.pgw_notation.specs.Views.{frame_of, frames_of}
 use Rattle.pgw_notation.specs.declared.reading.Open.{Open}
 
@@ -67,7 +67,7 @@ last_takes place n front last innermost new t is e =
     let grown : Open = record { key = innermost.key; parts = new } in
     let same : innermost ≡ last = is ∙ ap (λ k. get_or (front ++ last ∷ []) k innermost) end ∙ get_or-append_seam front last [] innermost in
     let changed : set (front ++ last ∷ []) (length (front ++ last ∷ []) - 1) grown ≡ front ++ grown ∷ [] =
-        ap (λ k. set (front ++ last ∷ []) k grown) end ∙ set-append_seam front last [] grown in
+    ap (λ k. set (front ++ last ∷ []) k grown) end ∙ set-append_seam front last [] grown in
     ap (λ fs. read_token place (in_mode fs (behind_type n (shape t))) comma) (frames_push front last ∙ ap (λ o. frame_of o ∷ frames_of front) (sym same))
     ∙ ap (λ ps. Ok (in_mode (record { key = option_map owned_key innermost.key; parts = ps } ∷ frames_of front) no_type)) (sym (parts_push new innermost.parts t e))
     ∙ ap (λ fs. Ok (in_mode fs no_type)) (sym (ap frames_of changed ∙ frames_push front grown))

@@ -9,7 +9,7 @@ use Rattle.std.specs.Str.{bytes_eq}
 use Rattle.pgw_meta.specs.Known.{Key}
 use Rattle.pgw_meta.specs.Shape.{Shape, scalar, text, int4, nullable, array, composite, named, Shapes, no_shapes, shape_then, count_shapes}
 use Rattle.pgw_notation.specs.Names.{is_name, IsNamed, type_name, scalar_types, range_types, named_among, type_named}
-use Rattle.pgw_notation.specs.Tokens.{Token, word, question, brackets, opening, closing, comma, at_sign, point, colon, other}
+use Rattle.pgw_notation.specs.Tokens.{Token, word, question, brackets, opening, closing, comma, at_sign, point, colon}
 use Rattle.pgw_notation.specs.Notation.{key_notation, notation, parts_notation, IsWritable, AreWritable}
 use Rattle.pgw_notation.specs.Faults.{BeginType}
 use Rattle.pgw_notation.specs.Reading.{Frame, Mode, no_type, behind_at, behind_name, behind_point, behind_key, behind_colon, behind_type, State, start, with_part, keyed, extended, ended, opened, in_mode, step}
@@ -210,8 +210,8 @@ step_means fs (behind_colon key) (word name) next ts m e = by (bytes_eq name (co
     by true is =
         let same = (bytes_eq-Decides name (codes "text")).0 is in
         let written : notation (named key (scalar text)) ≡ mode_tokens (behind_colon key) ++ word name ∷ [] =
-            ap (λ w. at_sign ∷ (key_notation key ++ colon ∷ word w ∷ [])) (sym same)
-            ∙ ap (λ us. at_sign ∷ us) (sym (append_assoc (key_notation key) (colon ∷ []) (word name ∷ []))) in
+        ap (λ w. at_sign ∷ (key_notation key ++ colon ∷ word w ∷ [])) (sym same)
+        ∙ ap (λ us. at_sign ∷ us) (sym (append_assoc (key_notation key) (colon ∷ []) (word name ∷ []))) in
         given _ next _ (rw is at e) (one_more fs (behind_colon key) ts (word name) (behind_type 0 (named key (scalar text))) m written (m.mode, refl, tt))
     by false is = absurd (none-some next (rw is at e))
 step_means fs (behind_colon key) opening next ts m e = given _ next _ e (opens fs (behind_colon key) ts (Some key) m refl m.mode)

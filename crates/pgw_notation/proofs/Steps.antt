@@ -1,17 +1,15 @@
 -- What a type is written as is read: each of its tokens may follow, and behind them stands the type.
-use Rattle.std.proofs.Common.{◌≡◌, ◌≤◌, ℕ, suc, List, [], ◌∷◌, ◌++◌, codes, Option, None, Some, option_map, Bool, true, false, refl, sym, ap, ◌∙◌, append_assoc, arith, if◌then◌else◌}
+use Rattle.std.proofs.Common.{◌≡◌, ◌≤◌, ℕ, suc, List, [], ◌∷◌, ◌++◌, Option, None, Some, option_map, refl, ap, ◌∙◌, append_assoc, arith, if◌then◌else◌}
 use Rattle.std.proofs.lemmas.Bool.{false≢true}
-use Rattle.std.proofs.lemmas.Option.{none-some}
 use Rattle.std.specs.Bool.{IsTrue}
 use Rattle.std.specs.Option.{option_and_then}
-use Rattle.std.specs.Str.{bytes_eq}
 use Rattle.pgw_meta.specs.Known.{Key}
 use Rattle.pgw_meta.specs.Shape.{Scalar, bool, char, int2, int4, int8, oid, text, bytea, uuid, money, pg_lsn, macaddr, macaddr8, inet, cidr, date, time, timestamp, timestamptz, interval, numeric, Shape, scalar, nullable, array, range, multirange, composite, named, Shapes, no_shapes, shape_then, count_shapes}
-use Rattle.pgw_meta.specs.Schema.{has_ranges, may_be_named, is_text}
-use Rattle.pgw_notation.specs.Names.{is_name, IsSchemaName, IsNamed, scalar_name, range_stem, type_name, type_named}
-use Rattle.pgw_notation.specs.Tokens.{Token, word, question, brackets, opening, closing, comma, at_sign, point, colon}
-use Rattle.pgw_notation.specs.Notation.{schema_notation, key_notation, notation, parts_notation, IsWritable, AreWritable}
-use Rattle.pgw_notation.specs.Reading.{Frame, Mode, no_type, behind_at, behind_name, behind_point, behind_key, behind_colon, behind_type, State, with_part, keyed, extended, ended, opened, in_mode, step}
+use Rattle.pgw_meta.specs.Schema.{has_ranges, may_be_named}
+use Rattle.pgw_notation.specs.Names.{is_name, IsSchemaName, scalar_name, type_name, type_named}
+use Rattle.pgw_notation.specs.Tokens.{Token, word, question, brackets, opening, comma, point, colon}
+use Rattle.pgw_notation.specs.Notation.{key_notation, notation, parts_notation, IsWritable, AreWritable}
+use Rattle.pgw_notation.specs.Reading.{Frame, no_type, behind_at, behind_name, behind_key, behind_colon, behind_type, State, with_part, keyed, opened, in_mode, step}
 
 -- the state behind tokens, where each of them may follow
 abbrev pub steps : State → List Token → Option State

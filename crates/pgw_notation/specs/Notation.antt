@@ -7,7 +7,7 @@
 -- `?` behind a type says that it may be null, and `[]` that it is an array of such elements.
 use Rattle.std.specs.Prelude.{ℕ, ◌≤◌, List, [], ◌∷◌, ◌++◌, Option, None, Some, IsTrue, ⊤}
 use Rattle.pgw_meta.specs.Known.{Key}
-use Rattle.pgw_meta.specs.Shape.{Scalar, Shape, scalar, nullable, array, range, multirange, composite, named, Shapes, no_shapes, shape_then, count_shapes}
+use Rattle.pgw_meta.specs.Shape.{Shape, scalar, nullable, array, range, multirange, composite, named, Shapes, no_shapes, shape_then, count_shapes}
 use Rattle.pgw_meta.specs.Schema.{has_ranges, may_be_named}
 use Rattle.pgw_notation.specs.Names.{type_name, IsNamed}
 use Rattle.pgw_notation.specs.Tokens.{Token, word, question, brackets, opening, closing, comma, at_sign, point, colon}

@@ -1,6 +1,6 @@
 -- The tokens of a text: the longest runs of letters of ASCII, digits and `_`; the marks of the notation; and each other
 -- byte by itself.
-use Rattle.std.specs.Prelude.{ℕ, ◌==◌, List, [], ◌∷◌, length, codes, if◌then◌else◌}
+use Rattle.std.specs.Prelude.{ℕ, ◌==◌, List, [], ◌∷◌, codes, if◌then◌else◌}
 use Rattle.std.specs.List.{flat_map}
 use Rattle.pgw_notation.specs.Names.{is_name_byte}
 

@@ -1,5 +1,5 @@
 -- What the program keeps of a text that it reads.
-use Rattle.std.specs.Prelude.{List, [], ◌∷◌, ◌++◌, map, reverse, option_map, None, Some}
+use Rattle.std.specs.Prelude.{List, map, reverse, option_map, Some}
 use Rattle.pgw_meta.specs.Keys.{owned_key}
 use Rattle.pgw_meta.specs.Types.{shape, shapes, types_of}
 use Rattle.pgw_notation.specs.Tokens.{Token, word, question, brackets, opening, closing, comma, at_sign, point, colon, other}

@@ -1,11 +1,11 @@
-ghost use Rattle.std.specs.Prelude.{◌≡◌, ◌≢◌, ◌⊎◌, [], ◌∷◌, Some, Ok, Err, option_map, length, nat_le, IfOk, IfErr, MatchResult};
+ghost use Rattle.std.specs.Prelude.{◌≡◌, ◌≢◌, ◌⊎◌, List, Some, Ok, Err, option_map, length, nat_le, IfOk, IfErr, MatchResult};
 ghost use Rattle.pgw_meta.specs.Keys.{owned_key};
 ghost use Rattle.pgw_meta.specs.Shape.{Shape, composite};
 ghost use Rattle.pgw_meta.specs.Types.{shape};
 ghost use Rattle.pgw_notation.specs.Faults.{IsTextOf, IsFaultOf};
-ghost use Rattle.pgw_notation.specs.Reading.{no_type, behind_at, behind_name, behind_point, behind_key, behind_colon, behind_type, in_mode, read_token, read_tokens, unless_deep, opened, ended, start, Answers};
+ghost use Rattle.pgw_notation.specs.Reading.{Frame, no_type, behind_at, behind_name, behind_point, behind_key, behind_colon, behind_type, in_mode, read_token, read_tokens, unless_deep, opened, ended, start, Answers};
 ghost use Rattle.pgw_notation.specs.Tokens.{tokens};
-ghost use Rattle.pgw_notation.specs.Views.{token_of, frame_of, frames_of, state_of};
+ghost use Rattle.pgw_notation.specs.Views.{token_of, frame_of, frames_of, mode_of, state_of};
 
 use crate::TypeFault;
 use crate::names::{is_name, type_named};
@@ -100,13 +100,9 @@ fn read_base<'a>(
 }
 
 /// Reads a token behind `@`.
-fn read_first_name<'a>(
-    open: &mut Vec<Open>,
-    token: Token<'a>,
-    place: usize,
-) -> Result<Front<'a>, TypeFault>
-    ensures { Answers (λ front. state_of open.new.items front) result
-        (read_token place (in_mode (frames_of open.old.items) behind_at) (token_of token.entry)) }
+fn read_first_name<'a>(token: Token<'a>, place: usize) -> Result<Front<'a>, TypeFault>
+    ensures { (fs : List Frame) → Answers (λ front. in_mode fs (mode_of front)) result
+        (read_token place (in_mode fs behind_at) (token_of token.entry)) }
 {
     match token {
         Token::Word(name) if is_name(name) => Ok(Front::BehindName(name)),
@@ -117,13 +113,12 @@ fn read_first_name<'a>(
 /// Reads a token behind `@` and a name.
 fn read_behind_name<'a>(
     alloc: Global,
-    open: &mut Vec<Open>,
     first: &'a str,
     token: Token<'a>,
     place: usize,
 ) -> Result<Front<'a>, TypeFault>
-    ensures { Answers (λ front. state_of open.new.items front) result
-        (read_token place (in_mode (frames_of open.old.items) (behind_name first.now)) (token_of token.entry)) }
+    ensures { (fs : List Frame) → Answers (λ front. in_mode fs (mode_of front)) result
+        (read_token place (in_mode fs (behind_name first.now)) (token_of token.entry)) }
 {
     match token {
         Token::Point => Ok(Front::BehindPoint(first)),
@@ -134,13 +129,12 @@ fn read_behind_name<'a>(
 
 /// Reads a token behind `@`, a schema and a point.
 fn read_second_name<'a>(
-    open: &mut Vec<Open>,
     schema: &'a str,
     token: Token<'a>,
     place: usize,
 ) -> Result<Front<'a>, TypeFault>
-    ensures { Answers (λ front. state_of open.new.items front) result
-        (read_token place (in_mode (frames_of open.old.items) (behind_point schema.now)) (token_of token.entry)) }
+    ensures { (fs : List Frame) → Answers (λ front. in_mode fs (mode_of front)) result
+        (read_token place (in_mode fs (behind_point schema.now)) (token_of token.entry)) }
 {
     match token {
         Token::Word(name) if is_name(name) => Ok(Front::BehindKey(schema, name)),
@@ -151,14 +145,13 @@ fn read_second_name<'a>(
 /// Reads a token behind `@`, a schema, a point and a name.
 fn read_colon<'a>(
     alloc: Global,
-    open: &mut Vec<Open>,
     schema: &'a str,
     name: &'a str,
     token: Token<'a>,
     place: usize,
 ) -> Result<Front<'a>, TypeFault>
-    ensures { Answers (λ front. state_of open.new.items front) result
-        (read_token place (in_mode (frames_of open.old.items) (behind_key (record { schema = Some schema.now; name = name.now }))) (token_of token.entry)) }
+    ensures { (fs : List Frame) → Answers (λ front. in_mode fs (mode_of front)) result
+        (read_token place (in_mode fs (behind_key (record { schema = Some schema.now; name = name.now }))) (token_of token.entry)) }
 {
     match token {
         Token::Colon => Ok(Front::BehindColon(TypeKey::new(alloc, Some(schema), name)?)),
@@ -244,10 +237,10 @@ fn read_token<'a>(
 {
     match front {
         Front::Start => read_base(alloc, open, token, place),
-        Front::BehindAt => read_first_name(open, token, place),
-        Front::BehindName(first) => read_behind_name(alloc, open, first, token, place),
-        Front::BehindPoint(schema) => read_second_name(open, schema, token, place),
-        Front::BehindKey(schema, name) => read_colon(alloc, open, schema, name, token, place),
+        Front::BehindAt => read_first_name(token, place),
+        Front::BehindName(first) => read_behind_name(alloc, first, token, place),
+        Front::BehindPoint(schema) => read_second_name(schema, token, place),
+        Front::BehindKey(schema, name) => read_colon(alloc, schema, name, token, place),
         Front::BehindColon(key) => read_named(alloc, open, key, token, place),
         Front::BehindType(t, suffixes) => {
             read_behind_type(alloc, open, t, suffixes, token, place)

@@ -1,6 +1,6 @@
-use Rattle.std.proofs.Common.{◌≡◌, ◌+◌, ◌-◌, ◌∷◌, ap, ◌∙◌, sym, take, drop, ℕ, length, arith}
-use Rattle.pgw_notation.specs.Tokens.{mark, tokens, word}
-use Rattle.pgw_notation.proofs.FirstTokens.{IsRun, run_in, run_at, run_ends, brackets_at, mark_at}
+use Rattle.std.proofs.Common.{◌≡◌, ◌+◌, ◌-◌, ◌∷◌, ap, ◌∙◌, sym, take, drop, arith}
+use Rattle.pgw_notation.specs.Tokens.{tokens, word}
+use Rattle.pgw_notation.proofs.FirstTokens.{run_in, run_at, run_ends, brackets_at, mark_at}
 use Rattle.pgw_notation.proofs.tokens.token_at.Goals as goal
 
 pub range-requires-clause-end_boundary : goal.range-requires-clause-end_boundary

@@ -1,0 +1,24 @@
+//! Laws of the notation, for proofs that call these functions: what they ensure. They do nothing.
+
+ghost use Rattle.std.specs.Prelude.{◌≡◌, ◌≢◌, ◌⊎◌, List, ℕ};
+ghost use Rattle.pgw_meta.specs.Shape.{Shape};
+ghost use Rattle.pgw_notation.specs.Tokens.{joined, tokens};
+ghost use Rattle.pgw_notation.specs.Faults.{IsTextOf, IsFaultOf};
+ghost use Rattle.pgw_notation.specs.declared.fault.TypeFault.{TypeFault};
+
+/// Joined, the tokens of a text are the text.
+pub fn tokens_join()
+    ensures { (text : List ℕ) → joined (tokens text) ≡ text }
+{}
+
+/// A text is that of one type, or has one first fault that is not want of memory, and a type has one text.
+pub fn one_reading()
+    ensures type_or_fault { (text : List ℕ) → ((t : Shape) × IsTextOf t text)
+        ⊎ ((fault : TypeFault) × (fault ≢ TypeFault.NoMemory) × IsFaultOf fault text) }
+    ensures one_type { (text : List ℕ) (t u : Shape) → IsTextOf t text → IsTextOf u text → t ≡ u }
+    ensures one_fault { (text : List ℕ) (fault other : TypeFault) → fault ≢ TypeFault.NoMemory
+        → other ≢ TypeFault.NoMemory → IsFaultOf fault text → IsFaultOf other text → fault ≡ other }
+    ensures not_both { (text : List ℕ) (t : Shape) (fault : TypeFault) → IsTextOf t text → IsFaultOf fault text
+        → fault ≡ TypeFault.NoMemory }
+    ensures one_text { (t : Shape) (text other : List ℕ) → IsTextOf t text → IsTextOf t other → text ≡ other }
+{}
