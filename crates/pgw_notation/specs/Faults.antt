@@ -50,7 +50,8 @@ is_too_deep before _ = false
 
 -- No token of these is too deep.
 abbrev pub IsShallow : List Token → Type 0
-IsShallow ts = (before : List Token) (t : Token) (after : List Token) → ts ≡ before ++ t ∷ after → is_too_deep before t ≡ false
+IsShallow ts =
+    (before : List Token) (t : Token) (after : List Token) → ts ≡ before ++ t ∷ after → is_too_deep before t ≡ false
 
 -- This text is that of a type.
 pub record IsTextOf (t : Shape) (text : List ℕ) : Type 0 where

@@ -13,7 +13,8 @@ pub enum TypeFault {
         /// Where the token begins, or how long the text is.
         place: usize,
     },
-    /// Number 2 of these faults: at this place a `(` stands while 31 records are open, or a `?` or `[]` behind 31 others.
+    /// Number 2 of these faults: at this place a `(` stands while 31 records are open, or a `?` or `[]` behind 31 of
+    /// these.
     #[error("type too deep at {place}")]
     TooDeep {
         /// Where it begins.

@@ -151,7 +151,8 @@ fn read_colon<'a>(
     place: usize,
 ) -> Result<Front<'a>, TypeFault>
     ensures { (fs : List Frame) → Answers (λ front. in_mode fs (mode_of front)) result
-        (read_token place (in_mode fs (behind_key (record { schema = Some schema.now; name = name.now }))) (token_of token.entry)) }
+        (read_token place (in_mode fs (behind_key (record { schema = Some schema.now; name = name.now })))
+        (token_of token.entry)) }
 {
     match token {
         Token::Colon => Ok(Front::BehindColon(TypeKey::new(alloc, Some(schema), name)?)),
@@ -190,7 +191,8 @@ fn read_behind_type<'a>(
     place: usize,
 ) -> Result<Front<'a>, TypeFault>
     ensures { Answers (λ front. state_of open.new.items front) result
-        (read_token place (in_mode (frames_of open.old.items) (behind_type suffixes (shape t))) (token_of token.entry)) }
+        (read_token place (in_mode (frames_of open.old.items) (behind_type suffixes (shape t)))
+        (token_of token.entry)) }
 {
     match token {
         Token::Question => {
@@ -273,14 +275,14 @@ fn read_text(alloc: Global, text: &str) -> Result<PgType, TypeFault>
 /// record = "(" type ("," type)* ")"
 /// ```
 ///
-/// A name of a type is that of a scalar, as `int4`, of a range, as `int4range`, or of a multirange, as `int4multirange`. `?`
-/// behind a type says that it may be null, and `[]` that it is an array of such elements. The name of a schema or behind `@`
-/// has 1 to 63 letters of ASCII, digits and `_`. The text has no spaces. It says nothing of which types may stand in a
-/// column: `Schema::new` does.
+/// The name of a type is that of a scalar, as `int4`, of a range, as `int4range`, or of a multirange, as
+/// `int4multirange`. A `?` behind a type says that it may be null, and `[]` that it is an array of such elements. The
+/// names of a key have 1 to 63 letters of ASCII, digits and `_`. There are no spaces. Which types the columns of a stream
+/// may have, the notation does not say: `Schema::new` does.
 ///
-/// The error is the first thing that is wrong, or `NoMemory`: `Syntax` where a token begins that no type's text goes on
-/// with, or the text ends too early, and `TooDeep` where a token that may follow is a `(` while 31 records are open, or a
-/// suffix behind 31 others of one base. The time is linear in the length of the text.
+/// The error is the first thing that is wrong, or `NoMemory`. It is `Syntax` where a token begins that no type's text goes
+/// on with, or where the text ends too early; and `TooDeep` where a token that may follow is a `(` while 31 records are
+/// open, or a suffix behind 31 others of one base.
 pub fn parse_type(alloc: Global, text: &str) -> Result<PgType, TypeFault>
     ensures text { IfOk result (λ t. IsTextOf (shape t) text.now) }
     ensures fault { IfErr result (λ fault. IsFaultOf fault text.now) }
