@@ -199,7 +199,7 @@ reads_without (t ∷ ts) place st e =
     unwanted place (is_deep st.open_ones st.mode t) (step st.open_ones st.mode t) (λ n. read_tokens (place + length (token_bytes t)) n ts)
     (λ n. reads_without ts (place + length (token_bytes t)) n) e
 
-never_memory : (text : List ℕ) → read_tokens 0 start (tokens text) ≡ Err NoMemory → ⊥
+pub never_memory : (text : List ℕ) → read_tokens 0 start (tokens text) ≡ Err NoMemory → ⊥
 never_memory text = reads_without (tokens text) 0 start
 
 passes_one : (place : ℕ) (st next : State) (t : Token) (ts : List Token) → is_deep st.open_ones st.mode t ≡ false → step st.open_ones st.mode t ≡ Some next
@@ -238,7 +238,7 @@ passes (t ∷ mid) front after place first last r e h =
               ∙ rest.reads ∙ ap (λ k. read_tokens k last after) sums;
         }
 
-text_is_read : (text : List ℕ) (t : Shape) → IsTextOf t text → read_tokens 0 start (tokens text) ≡ Ok t
+pub text_is_read : (text : List ℕ) (t : Shape) → IsTextOf t text → read_tokens 0 start (tokens text) ≡ Ok t
 text_is_read text t h =
     let last = in_mode [] (behind_type (suffixes_of t) t) in
     ap (read_tokens 0 start) (sym (append-nil (tokens text)))
@@ -290,7 +290,7 @@ depth_is_read text place (before, t, stands, begins, deep) =
     by st after r (Some next) e =
         ap₂ (λ d s. read_on (λ n. read_tokens (place + length (token_bytes t)) n after) (unless_deep place d s)) (deep_is st.open_ones st.mode t next before r.counts e ∙ deep) e
 
-first_fault_is_read : (text : List ℕ) (fault : TypeFault) → fault ≢ NoMemory → IsFaultOf fault text → read_tokens 0 start (tokens text) ≡ Err fault
+pub first_fault_is_read : (text : List ℕ) (fault : TypeFault) → fault ≢ NoMemory → IsFaultOf fault text → read_tokens 0 start (tokens text) ≡ Err fault
 first_fault_is_read text (Syntax place) other h = stop_is_read text place h
 first_fault_is_read text (TooDeep place) other h = depth_is_read text place h
 first_fault_is_read text NoMemory other h = absurd (other refl)

@@ -3,4 +3,5 @@ pub mod Tokens
 pub mod Notation
 pub mod Faults
 pub mod Reading
+pub mod Checking
 pub mod Views

@@ -85,9 +85,9 @@ is_deep fs (behind_type n t) question = nat_le 31 n
 is_deep fs (behind_type n t) brackets = nat_le 31 n
 is_deep _ _ _ = false
 
-abbrev pub unless_deep : ℕ → Bool → Option State → Result State TypeFault
+abbrev pub unless_deep : {A : Type 0} → ℕ → Bool → Option A → Result A TypeFault
 unless_deep place deep None = Err (Syntax place)
-unless_deep place deep (Some st) = if deep then Err (TooDeep place) else Ok st
+unless_deep place deep (Some next) = if deep then Err (TooDeep place) else Ok next
 
 -- what a token at this place makes of what stands in front of it, or its fault
 abbrev pub read_token : ℕ → State → Token → Result State TypeFault

@@ -1,13 +1,22 @@
-ghost use Rattle.std.specs.Prelude.{◌≡◌, Some, IfOk, option_map};
-ghost use Rattle.pgw_meta.specs.Shape.{range, multirange};
+ghost use Rattle.std.specs.Prelude.{◌≡◌, IfOk, is_some, option_map};
 ghost use Rattle.pgw_meta.specs.Types.{shape};
 ghost use Rattle.pgw_notation.specs.Names.{is_name_byte, is_name, scalar_types, range_types, named_among, type_named};
+ghost use Rattle.pgw_notation.specs.Views.{range_shape};
 
 use pgw_meta::PgType;
 use std::alloc::{AllocFailed, Global};
 
 /// How many bytes a name has at most.
 const NAME_MAX: usize = 63;
+
+/// A name of ranges or of multiranges, by the type of their bounds.
+#[derive(Drop)]
+enum RangeName {
+    /// Ranges over this type.
+    Range(PgType),
+    /// Multiranges over this type.
+    Multirange(PgType),
+}
 
 /// Whether a byte may stand in a name.
 pub fn is_name_byte(byte: u8) -> bool
@@ -57,47 +66,44 @@ fn scalar_type(name: &str) -> Option<PgType>
     }
 }
 
-/// The type of the ranges over a type.
-fn range_over(alloc: Global, bound: PgType) -> Result<Option<PgType>, AllocFailed<PgType>>
-    ensures { IfOk result (λ t. option_map shape t ≡ Some (range (shape bound))) }
-{
-    Ok(Some(PgType::Range(Box::new(alloc, bound)?)))
-}
-
-/// The type of the multiranges over a type.
-fn multirange_over(alloc: Global, bound: PgType) -> Result<Option<PgType>, AllocFailed<PgType>>
-    ensures { IfOk result (λ t. option_map shape t ≡ Some (multirange (shape bound))) }
-{
-    Ok(Some(PgType::Multirange(Box::new(alloc, bound)?)))
-}
-
-/// The type of ranges or multiranges of a name.
-fn range_type(alloc: Global, name: &str) -> Result<Option<PgType>, AllocFailed<PgType>>
-    ensures { IfOk result (λ t. option_map shape t ≡ named_among name.now range_types) }
+/// The type of the bounds that a name of ranges or of multiranges says.
+fn range_named(name: &str) -> Option<RangeName>
+    ensures { option_map range_shape result ≡ named_among name.now range_types }
 {
     match name {
-        "int4range" => range_over(alloc, PgType::Int4),
-        "int8range" => range_over(alloc, PgType::Int8),
-        "numrange" => range_over(alloc, PgType::Numeric),
-        "daterange" => range_over(alloc, PgType::Date),
-        "tsrange" => range_over(alloc, PgType::Timestamp),
-        "tstzrange" => range_over(alloc, PgType::Timestamptz),
-        "int4multirange" => multirange_over(alloc, PgType::Int4),
-        "int8multirange" => multirange_over(alloc, PgType::Int8),
-        "nummultirange" => multirange_over(alloc, PgType::Numeric),
-        "datemultirange" => multirange_over(alloc, PgType::Date),
-        "tsmultirange" => multirange_over(alloc, PgType::Timestamp),
-        "tstzmultirange" => multirange_over(alloc, PgType::Timestamptz),
-        _ => Ok(None),
+        "int4range" => Some(RangeName::Range(PgType::Int4)),
+        "int8range" => Some(RangeName::Range(PgType::Int8)),
+        "numrange" => Some(RangeName::Range(PgType::Numeric)),
+        "daterange" => Some(RangeName::Range(PgType::Date)),
+        "tsrange" => Some(RangeName::Range(PgType::Timestamp)),
+        "tstzrange" => Some(RangeName::Range(PgType::Timestamptz)),
+        "int4multirange" => Some(RangeName::Multirange(PgType::Int4)),
+        "int8multirange" => Some(RangeName::Multirange(PgType::Int8)),
+        "nummultirange" => Some(RangeName::Multirange(PgType::Numeric)),
+        "datemultirange" => Some(RangeName::Multirange(PgType::Date)),
+        "tsmultirange" => Some(RangeName::Multirange(PgType::Timestamp)),
+        "tstzmultirange" => Some(RangeName::Multirange(PgType::Timestamptz)),
+        _ => None,
     }
+}
+
+/// Whether a type is written by this name alone.
+pub fn is_type_name(name: &str) -> bool
+    ensures { result ≡ is_some (type_named name.now) }
+{
+    scalar_type(name).is_some() || range_named(name).is_some()
 }
 
 /// The type that is written by this name alone. The error comes only for want of memory.
 pub fn type_named(alloc: Global, name: &str) -> Result<Option<PgType>, AllocFailed<PgType>>
     ensures { IfOk result (λ t. option_map shape t ≡ type_named name.now) }
 {
-    match scalar_type(name) {
-        Some(t) => Ok(Some(t)),
-        None => range_type(alloc, name),
+    if let Some(t) = scalar_type(name) {
+        return Ok(Some(t));
+    }
+    match range_named(name) {
+        Some(RangeName::Range(bound)) => Ok(Some(PgType::Range(Box::new(alloc, bound)?))),
+        Some(RangeName::Multirange(bound)) => Ok(Some(PgType::Multirange(Box::new(alloc, bound)?))),
+        None => Ok(None),
     }
 }

@@ -14,7 +14,7 @@ use pgw_meta::{PgType, TypeKey, TypeList};
 use std::alloc::Global;
 
 /// How many records are open at most, and how many suffixes stand behind a base.
-const DEPTH_MAX: usize = 31;
+pub const DEPTH_MAX: usize = 31;
 
 /// A record whose `)` is still to come.
 #[derive(Drop)]
