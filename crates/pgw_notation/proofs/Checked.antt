@@ -11,7 +11,7 @@ use Rattle.pgw_notation.specs.Reading.{Frame, Mode, no_type, behind_at, behind_n
 use Rattle.pgw_notation.specs.Checking.{Outline, at_start, after_at, after_name, after_point, after_key, after_colon, after_type, Sketch, sketch_at, sketch_if, outline_step, is_deep_outline, check_end, check_on, check_tokens}
 use Rattle.pgw_notation.specs.declared.fault.TypeFault.{TypeFault}
 use Rattle.pgw_notation.specs.declared.fault.TypeFault.TheVariants.{NoMemory}
-use Rattle.pgw_notation.proofs.Exact.{read_is_text, fault_is_first, text_is_read, first_fault_is_read, never_memory}
+use Rattle.pgw_notation.proofs.Exact.{read_is_text, fault_is_first, text_is_read, first_fault_is_read}
 
 abbrev outline : Mode → Outline
 outline no_type = at_start
@@ -97,15 +97,14 @@ check_same (t ∷ ts) place st =
 checked : (text : List ℕ) (r : Option TypeFault) → r ≡ check_tokens 0 (sketch_at 0 at_start) (tokens text) → r ≡ result_err (read_tokens 0 start (tokens text))
 checked text r e = e ∙ check_same (tokens text) 0 start
 
-pub check_fault : (text : List ℕ) (r : Option TypeFault) → r ≡ check_tokens 0 (sketch_at 0 at_start) (tokens text) → IfSome r (λ fault. (fault ≢ NoMemory) × IsFaultOf fault text)
+pub check_fault : (text : List ℕ) (r : Option TypeFault) → r ≡ check_tokens 0 (sketch_at 0 at_start) (tokens text) → IfSome r (λ fault. IsFaultOf fault text)
 check_fault text None e = tt
 check_fault text (Some fault) e = by (read_tokens 0 start (tokens text)) refl (checked text (Some fault) e)
   where
-    by : (q : Result Shape TypeFault) → read_tokens 0 start (tokens text) ≡ q → Some fault ≡ result_err q → (fault ≢ NoMemory) × IsFaultOf fault text
+    by : (q : Result Shape TypeFault) → read_tokens 0 start (tokens text) ≡ q → Some fault ≡ result_err q → IsFaultOf fault text
     by (Ok t) is k = absurd (cc)
     by (Err found) is k =
-        let same : read_tokens 0 start (tokens text) ≡ Err fault = cc in
-        (λ none. never_memory text (same ∙ ap Err none), fault_is_first text fault same)
+        let same : read_tokens 0 start (tokens text) ≡ Err fault = cc in fault_is_first text fault same
 
 pub check_none : (text : List ℕ) (r : Option TypeFault) → r ≡ check_tokens 0 (sketch_at 0 at_start) (tokens text) → IfNone r ((t : Shape) × IsTextOf t text)
 check_none text (Some fault) e = tt
@@ -115,8 +114,8 @@ check_none text None e = by (read_tokens 0 start (tokens text)) refl (checked te
     by (Ok t) is k = (t, read_is_text text t is)
     by (Err found) is k = absurd (cc)
 
-pub check_each_fault : (text : List ℕ) (r : Option TypeFault) → r ≡ check_tokens 0 (sketch_at 0 at_start) (tokens text) → (fault : TypeFault) → fault ≢ NoMemory → IsFaultOf fault text → r ≡ Some fault
-check_each_fault text r e fault wanted h = checked text r e ∙ ap result_err (first_fault_is_read text fault wanted h)
+pub check_each_fault : (text : List ℕ) (r : Option TypeFault) → r ≡ check_tokens 0 (sketch_at 0 at_start) (tokens text) → (fault : TypeFault) → IsFaultOf fault text → r ≡ Some fault
+check_each_fault text r e fault h = checked text r e ∙ ap result_err (first_fault_is_read text fault h)
 
 pub check_each_text : (text : List ℕ) (r : Option TypeFault) → r ≡ check_tokens 0 (sketch_at 0 at_start) (tokens text) → (t : Shape) → IsTextOf t text → r ≡ None
 check_each_text text r e t h = checked text r e ∙ ap result_err (text_is_read text t h)

@@ -177,31 +177,6 @@ pub fault_is_first : (text : List ℕ) (fault : TypeFault) → read_tokens 0 sta
 unfolding Told
 fault_is_first text fault e = subst (Told text) e (told text)
 
-unwanted : (place : ℕ) (deep : Bool) (s : Option State) (f : State → Result Shape TypeFault) → ((st : State) → f st ≡ Err NoMemory → ⊥) → read_on f (unless_deep place deep s) ≡ Err NoMemory → ⊥
-unwanted place deep None f h e = cc
-unwanted place true (Some st) f h e = cc
-unwanted place false (Some st) f h e = h st e
-
-end_unwanted : (place : ℕ) (fs : List Frame) (mode : Mode) → read_end place fs mode ≡ Err NoMemory → ⊥
-end_unwanted place [] (behind_type n t) e = cc
-end_unwanted place [] no_type e = cc
-end_unwanted place [] behind_at e = cc
-end_unwanted place [] (behind_name name) e = cc
-end_unwanted place [] (behind_point name) e = cc
-end_unwanted place [] (behind_key key) e = cc
-end_unwanted place [] (behind_colon key) e = cc
-end_unwanted place (frame ∷ fs) mode e = cc
-
--- Reading tokens takes no memory.
-reads_without : (ts : List Token) (place : ℕ) (st : State) → read_tokens place st ts ≡ Err NoMemory → ⊥
-reads_without [] place st e = end_unwanted place st.open_ones st.mode e
-reads_without (t ∷ ts) place st e =
-    unwanted place (is_deep st.open_ones st.mode t) (step st.open_ones st.mode t) (λ n. read_tokens (place + length (token_bytes t)) n ts)
-    (λ n. reads_without ts (place + length (token_bytes t)) n) e
-
-pub never_memory : (text : List ℕ) → read_tokens 0 start (tokens text) ≡ Err NoMemory → ⊥
-never_memory text = reads_without (tokens text) 0 start
-
 passes_one : (place : ℕ) (st next : State) (t : Token) (ts : List Token) → is_deep st.open_ones st.mode t ≡ false → step st.open_ones st.mode t ≡ Some next
     → read_tokens place st (t ∷ ts) ≡ read_tokens (place + length (token_bytes t)) next ts
 passes_one place st next t ts shallow e = ap₂ (λ deep s. read_on (λ n. read_tokens (place + length (token_bytes t)) n ts) (unless_deep place deep s)) shallow e
@@ -290,21 +265,50 @@ depth_is_read text place (before, t, stands, begins, deep) =
     by st after r (Some next) e =
         ap₂ (λ d s. read_on (λ n. read_tokens (place + length (token_bytes t)) n after) (unless_deep place d s)) (deep_is st.open_ones st.mode t next before r.counts e ∙ deep) e
 
-pub first_fault_is_read : (text : List ℕ) (fault : TypeFault) → fault ≢ NoMemory → IsFaultOf fault text → read_tokens 0 start (tokens text) ≡ Err fault
-first_fault_is_read text (Syntax place) other h = stop_is_read text place h
-first_fault_is_read text (TooDeep place) other h = depth_is_read text place h
-first_fault_is_read text NoMemory other h = absurd (other refl)
+pub first_fault_is_read : (text : List ℕ) (fault : TypeFault) → IsFaultOf fault text → read_tokens 0 start (tokens text) ≡ Err fault
+first_fault_is_read text (Syntax place) h = stop_is_read text place h
+first_fault_is_read text (TooDeep place) h = depth_is_read text place h
+first_fault_is_read text NoMemory h = absurd h
+
+-- A text has a type or a fault.
+pub type_or_fault : (text : List ℕ) → ((t : Shape) × IsTextOf t text) ⊎ ((fault : TypeFault) × IsFaultOf fault text)
+type_or_fault text = by (read_tokens 0 start (tokens text)) refl
+  where
+    by : (r : Result Shape TypeFault) → read_tokens 0 start (tokens text) ≡ r → ((t : Shape) × IsTextOf t text) ⊎ ((fault : TypeFault) × IsFaultOf fault text)
+    by (Ok t) e = inl (t, read_is_text text t e)
+    by (Err fault) e = inr (fault, fault_is_first text fault e)
+
+pub one_type : (text : List ℕ) (t u : Shape) → IsTextOf t text → IsTextOf u text → t ≡ u
+one_type text t u h k =
+    let first = text_is_read text t h in
+    let second = text_is_read text u k in
+    cc
+
+pub one_fault : (text : List ℕ) (fault again : TypeFault) → IsFaultOf fault text → IsFaultOf again text → fault ≡ again
+one_fault text fault again h k =
+    let first = first_fault_is_read text fault h in
+    let second = first_fault_is_read text again k in
+    cc
+
+pub not_both : (text : List ℕ) (t : Shape) (fault : TypeFault) → IsTextOf t text → IsFaultOf fault text → ⊥
+not_both text t fault h k =
+    let first = text_is_read text t h in
+    let second = first_fault_is_read text fault k in
+    cc
+
+pub one_text : (t : Shape) (text again : List ℕ) → IsTextOf t text → IsTextOf t again → text ≡ again
+one_text t text again h k = sym (joined_tokens text) ∙ ap joined (sym h.is ∙ k.is) ∙ joined_tokens again
 
 -- The answers of the program.
 pub answers_text : (text : List ℕ) (r : Result PgType TypeFault) → Answers shape r (read_tokens 0 start (tokens text)) → IfOk r (λ t. IsTextOf (shape t) text)
 answers_text text (Ok t) a = read_is_text text (shape t) a
 answers_text text (Err e) a = tt
 
-pub answers_fault : (text : List ℕ) (r : Result PgType TypeFault) → Answers shape r (read_tokens 0 start (tokens text)) → IfErr r (λ fault. IsFaultOf fault text)
-answers_fault text (Ok t) a = tt
-answers_fault text (Err (Syntax place)) a = fault_is_first text (Syntax place) a
-answers_fault text (Err (TooDeep place)) a = fault_is_first text (TooDeep place) a
-answers_fault text (Err NoMemory) a = tt
+pub answers_fault : (text : List ℕ) (r : Result PgType TypeFault) → Answers shape r (read_tokens 0 start (tokens text)) → (fault : TypeFault) → fault ≢ NoMemory → r ≡ Err fault → IsFaultOf fault text
+answers_fault text (Ok t) a fault some e = absurd (cc)
+answers_fault text (Err (Syntax place)) a fault some e = let same : Syntax place ≡ fault = cc in fault_is_first text fault (a ∙ ap Err same)
+answers_fault text (Err (TooDeep place)) a fault some e = let same : TooDeep place ≡ fault = cc in fault_is_first text fault (a ∙ ap Err same)
+answers_fault text (Err NoMemory) a fault some e = let same : fault ≡ NoMemory = cc in absurd (some same)
 
 pub answers_each_text : (text : List ℕ) (r : Result PgType TypeFault) → Answers shape r (read_tokens 0 start (tokens text)) → (t : Shape) → IsTextOf t text
     → MatchResult r (λ u. shape u ≡ t) (λ e. e ≡ NoMemory)
@@ -315,43 +319,3 @@ answers_each_text text r a t h = by r a (text_is_read text t h)
     by (Err (Syntax place)) k e = absurd (cc)
     by (Err (TooDeep place)) k e = absurd (cc)
     by (Err NoMemory) k e = refl
-
-pub answers_each_fault : (text : List ℕ) (r : Result PgType TypeFault) → Answers shape r (read_tokens 0 start (tokens text)) → (fault : TypeFault) → fault ≢ NoMemory → IsFaultOf fault text
-    → (r ≡ Err fault) ⊎ (r ≡ Err NoMemory)
-answers_each_fault text r a fault other h = by r a (first_fault_is_read text fault other h)
-  where
-    by : (q : Result PgType TypeFault) → Answers shape q (read_tokens 0 start (tokens text)) → read_tokens 0 start (tokens text) ≡ Err fault → (q ≡ Err fault) ⊎ (q ≡ Err NoMemory)
-    by (Ok u) k e = absurd (cc)
-    by (Err (Syntax place)) k e = inl (cc)
-    by (Err (TooDeep place)) k e = inl (cc)
-    by (Err NoMemory) k e = inr refl
-
--- A text has a type or a fault.
-pub type_or_fault : (text : List ℕ) → ((t : Shape) × IsTextOf t text) ⊎ ((fault : TypeFault) × (fault ≢ NoMemory) × IsFaultOf fault text)
-type_or_fault text = by (read_tokens 0 start (tokens text)) refl
-  where
-    by : (r : Result Shape TypeFault) → read_tokens 0 start (tokens text) ≡ r → ((t : Shape) × IsTextOf t text) ⊎ ((fault : TypeFault) × (fault ≢ NoMemory) × IsFaultOf fault text)
-    by (Ok t) e = inl (t, read_is_text text t e)
-    by (Err (Syntax place)) e = inr (Syntax place, (λ same. cc), fault_is_first text (Syntax place) e)
-    by (Err (TooDeep place)) e = inr (TooDeep place, (λ same. cc), fault_is_first text (TooDeep place) e)
-    by (Err NoMemory) e = absurd (never_memory text e)
-
-pub one_type : (text : List ℕ) (t u : Shape) → IsTextOf t text → IsTextOf u text → t ≡ u
-one_type text t u h k =
-    let first = text_is_read text t h in
-    let second = text_is_read text u k in
-    cc
-
-pub one_fault : (text : List ℕ) (fault other : TypeFault) → fault ≢ NoMemory → other ≢ NoMemory → IsFaultOf fault text → IsFaultOf other text → fault ≡ other
-one_fault text fault other f o h k =
-    let first = first_fault_is_read text fault f h in
-    let second = first_fault_is_read text other o k in
-    cc
-
-pub not_both : (text : List ℕ) (t : Shape) (fault : TypeFault) → IsTextOf t text → IsFaultOf fault text → fault ≡ NoMemory
-not_both text t (Syntax place) h k = let first = text_is_read text t h in let second = stop_is_read text place k in absurd (cc)
-not_both text t (TooDeep place) h k = let first = text_is_read text t h in let second = depth_is_read text place k in absurd (cc)
-not_both text t NoMemory h k = refl
-
-pub one_text : (t : Shape) (text other : List ℕ) → IsTextOf t text → IsTextOf t other → text ≡ other
-one_text t text other h k = sym (joined_tokens text) ∙ ap joined (sym h.is ∙ k.is) ∙ joined_tokens other

@@ -1,5 +1,5 @@
 -- Which text a type is written as, and what is wrong with a text that none is.
-use Rattle.std.specs.Prelude.{ℕ, ◌≡◌, ◌-◌, ◌⊎◌, List, [], ◌∷◌, ◌++◌, length, reverse, Bool, true, false, nat_le, ⊤}
+use Rattle.std.specs.Prelude.{ℕ, ◌≡◌, ◌-◌, ◌⊎◌, List, [], ◌∷◌, ◌++◌, length, reverse, Bool, true, false, nat_le}
 use Rattle.std.specs.List.{count_by, prefix_len}
 use Rattle.pgw_meta.specs.Shape.{Shape}
 use Rattle.pgw_notation.specs.Tokens.{Token, question, brackets, opening, closing, tokens, joined}
@@ -79,8 +79,8 @@ DeepensAt text place =
     (before : List Token) × (t : Token) × StandsAt text place before t × BeginType (before ++ t ∷ [])
     × (is_too_deep before t ≡ true)
 
--- The first thing that is wrong with a text. Want of memory may come with every text.
+-- The first thing that is wrong with a text. Want of memory is nothing that is wrong with one.
 abbrev pub IsFaultOf : TypeFault → List ℕ → Type 0
 IsFaultOf (Syntax place) text = StopsAt text place
 IsFaultOf (TooDeep place) text = DeepensAt text place
-IsFaultOf NoMemory text = ⊤
+IsFaultOf NoMemory text = ⊥

@@ -1,4 +1,4 @@
-ghost use Rattle.std.specs.Prelude.{◌≡◌, ◌≢◌, ◌+◌, None, Some, IfNone, IfSome, nat_le};
+ghost use Rattle.std.specs.Prelude.{◌≡◌, ◌+◌, None, Some, IfNone, IfSome, nat_le};
 ghost use Rattle.std.specs.Result.{result_map_both};
 ghost use Rattle.pgw_meta.specs.Shape.{Shape};
 ghost use Rattle.pgw_notation.specs.Faults.{IsTextOf, IsFaultOf};
@@ -135,15 +135,14 @@ fn check_text(text: &str) -> Option<TypeFault>
     }
 }
 
-/// The first thing that is wrong with the text of a type, where something is: what `parse_type` answers where it has
-/// memory. It takes no memory, and never answers `NoMemory`.
+/// The first thing that is wrong with the text of a type, where something is: what `parse_type` answers of it. It takes no
+/// memory, and never answers `NoMemory`.
 pub fn type_fault(text: &str) -> Option<TypeFault>
-    ensures fault { IfSome result (λ fault. (fault ≢ TypeFault.NoMemory) × IsFaultOf fault text.now) }
+    ensures fault { IfSome result (λ fault. IsFaultOf fault text.now) }
     ensures none { IfNone result ((t : Shape) × IsTextOf t text.now) }
 
     // The first fault is the answer, and the text of a type has none.
-    ensures each_fault { (fault : TypeFault) → fault ≢ TypeFault.NoMemory → IsFaultOf fault text.now
-        → result ≡ Some fault }
+    ensures each_fault { (fault : TypeFault) → IsFaultOf fault text.now → result ≡ Some fault }
     ensures each_text { (t : Shape) → IsTextOf t text.now → result ≡ None }
 {
     check_text(text)

@@ -1,6 +1,6 @@
 //! Laws of the notation, for proofs that call these functions: what they ensure. They do nothing.
 
-ghost use Rattle.std.specs.Prelude.{◌≡◌, ◌≢◌, ◌⊎◌, List, ℕ};
+ghost use Rattle.std.specs.Prelude.{◌≡◌, ◌⊎◌, List, ℕ};
 ghost use Rattle.pgw_meta.specs.Shape.{Shape};
 ghost use Rattle.pgw_notation.specs.Tokens.{joined, tokens};
 ghost use Rattle.pgw_notation.specs.Faults.{IsTextOf, IsFaultOf};
@@ -11,14 +11,13 @@ pub fn tokens_join()
     ensures { (text : List ℕ) → joined (tokens text) ≡ text }
 {}
 
-/// A text is that of one type, or has one first fault that is not want of memory, and a type has one text.
+/// A text is that of one type or has one first fault, and a type has one text.
 pub fn one_reading()
     ensures type_or_fault { (text : List ℕ) → ((t : Shape) × IsTextOf t text)
-        ⊎ ((fault : TypeFault) × (fault ≢ TypeFault.NoMemory) × IsFaultOf fault text) }
+        ⊎ ((fault : TypeFault) × IsFaultOf fault text) }
+    ensures not_both { (text : List ℕ) (t : Shape) (fault : TypeFault) → IsTextOf t text → IsFaultOf fault text → ⊥ }
     ensures one_type { (text : List ℕ) (t u : Shape) → IsTextOf t text → IsTextOf u text → t ≡ u }
-    ensures one_fault { (text : List ℕ) (fault other : TypeFault) → fault ≢ TypeFault.NoMemory
-        → other ≢ TypeFault.NoMemory → IsFaultOf fault text → IsFaultOf other text → fault ≡ other }
-    ensures not_both { (text : List ℕ) (t : Shape) (fault : TypeFault) → IsTextOf t text → IsFaultOf fault text
-        → fault ≡ TypeFault.NoMemory }
-    ensures one_text { (t : Shape) (text other : List ℕ) → IsTextOf t text → IsTextOf t other → text ≡ other }
+    ensures one_fault { (text : List ℕ) (fault again : TypeFault) → IsFaultOf fault text → IsFaultOf again text
+        → fault ≡ again }
+    ensures one_text { (t : Shape) (text again : List ℕ) → IsTextOf t text → IsTextOf t again → text ≡ again }
 {}

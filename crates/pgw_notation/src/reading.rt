@@ -8,6 +8,7 @@ ghost use Rattle.pgw_notation.specs.Tokens.{tokens};
 ghost use Rattle.pgw_notation.specs.Views.{token_of, frame_of, frames_of, mode_of, state_of};
 
 use crate::TypeFault;
+use crate::checking::type_fault;
 use crate::names::{is_name, type_named};
 use crate::tokens::{Token, token_at};
 use pgw_meta::{PgType, TypeKey, TypeList};
@@ -280,18 +281,21 @@ fn read_text(alloc: Global, text: &str) -> Result<PgType, TypeFault>
 /// names of a key have 1 to 63 letters of ASCII, digits and `_`. There are no spaces. Which types the columns of a stream
 /// may have, the notation does not say: `Schema::new` does.
 ///
-/// The error is the first thing that is wrong, or `NoMemory`. It is `Syntax` where a token begins that no type's text goes
-/// on with, or where the text ends too early; and `TooDeep` where a token that may follow is a `(` while 31 records are
-/// open, or a suffix behind 31 others of one base.
+/// An error is the first thing that is wrong, whatever memory there is: `Syntax` where a token begins that no type's text
+/// goes on with, or where the text ends too early; and `TooDeep` where a token that may follow is a `(` while 31 records
+/// are open, or a suffix behind 31 others of one base. `NoMemory` comes only with the text of a type.
 pub fn parse_type(alloc: Global, text: &str) -> Result<PgType, TypeFault>
     ensures text { IfOk result (λ t. IsTextOf (shape t) text.now) }
-    ensures fault { IfErr result (λ fault. IsFaultOf fault text.now) }
+    ensures fault { (fault : TypeFault) → fault ≢ TypeFault.NoMemory → result ≡ Err fault → IsFaultOf fault text.now }
+    ensures no_memory { result ≡ Err TypeFault.NoMemory → (t : Shape) × IsTextOf t text.now }
 
-    // Unless memory is refused, the text of a type is read as that type, and the first fault is the answer.
+    // The first fault is the answer, and the text of a type is read as that type unless memory is refused.
+    ensures each_fault { (fault : TypeFault) → IsFaultOf fault text.now → result ≡ Err fault }
     ensures each_text { (t : Shape) → IsTextOf t text.now
         → MatchResult result (λ u. shape u ≡ t) (λ e. e ≡ TypeFault.NoMemory) }
-    ensures each_fault { (fault : TypeFault) → fault ≢ TypeFault.NoMemory → IsFaultOf fault text.now
-        → (result ≡ Err fault) ⊎ (result ≡ Err TypeFault.NoMemory) }
 {
-    read_text(alloc, text)
+    match type_fault(text) {
+        Some(fault) => Err(fault),
+        None => read_text(alloc, text),
+    }
 }
