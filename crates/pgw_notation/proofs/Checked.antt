@@ -1,16 +1,15 @@
 -- The first fault of a text that is checked is that of the text as it is read.
-use Rattle.std.proofs.Common.{◌≡◌, ◌≢◌, ◌+◌, ◌-◌, ◌==◌, ℕ, suc, List, [], ◌∷◌, length, codes, Option, None, Some, option_map, Result, Ok, Err, Bool, true, false, refl, sym, ap, ◌∙◌, add-one, ne_eqb, arith, if◌then◌else◌}
+use Rattle.std.proofs.Common.{◌≡◌, ◌+◌, ◌-◌, ◌==◌, ℕ, suc, List, [], ◌∷◌, length, codes, Option, None, Some, option_map, Result, Ok, Err, Bool, true, false, refl, ap, ◌∙◌, add-one, ne_eqb, arith, if◌then◌else◌}
 use Rattle.std.specs.Option.{is_some, IfSome, IfNone}
 use Rattle.std.specs.Result.{result_err}
 use Rattle.std.specs.Str.{bytes_eq}
 use Rattle.pgw_meta.specs.Shape.{Shape}
 use Rattle.pgw_notation.specs.Names.{is_name, type_named}
-use Rattle.pgw_notation.specs.Tokens.{Token, word, question, brackets, opening, closing, comma, at_sign, point, colon, other, token_bytes, tokens}
+use Rattle.pgw_notation.specs.Tokens.{Token, word, question, brackets, opening, closing, comma, at_sign, point, colon, token_bytes, tokens}
 use Rattle.pgw_notation.specs.Faults.{IsTextOf, IsFaultOf}
 use Rattle.pgw_notation.specs.Reading.{Frame, Mode, no_type, behind_at, behind_name, behind_point, behind_key, behind_colon, behind_type, State, start, in_mode, step, is_deep, unless_deep, read_end, read_on, read_tokens}
 use Rattle.pgw_notation.specs.Checking.{Outline, at_start, after_at, after_name, after_point, after_key, after_colon, after_type, Sketch, sketch_at, sketch_if, outline_step, is_deep_outline, check_end, check_on, check_tokens}
 use Rattle.pgw_notation.specs.declared.fault.TypeFault.{TypeFault}
-use Rattle.pgw_notation.specs.declared.fault.TypeFault.TheVariants.{NoMemory}
 use Rattle.pgw_notation.proofs.Exact.{read_is_text, fault_is_first, text_is_read, first_fault_is_read}
 
 abbrev outline : Mode → Outline

@@ -5,7 +5,7 @@ use Rattle.std.proofs.lemmas.Grind.{flat_map-append}
 use Rattle.std.proofs.lemmas.List.{length-append}
 use Rattle.std.proofs.lemmas.Option.{none-some}
 use Rattle.std.specs.Option.{option_and_then}
-use Rattle.std.specs.Result.{IfOk, IfErr, MatchResult}
+use Rattle.std.specs.Result.{IfOk, MatchResult}
 use Rattle.pgw_meta.specs.Shape.{Shape}
 use Rattle.pgw_meta.specs.Types.{shape}
 use Rattle.pgw_meta.specs.declared.types.PgType.{PgType}

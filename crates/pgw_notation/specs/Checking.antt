@@ -1,6 +1,6 @@
 -- How tokens are checked without making a type of them, for the crate's own functions: as they are read, where of the
 -- types, names and keys nothing is kept. `proofs/Checked.antt` proves that the first fault is the same.
-use Rattle.std.specs.Prelude.{ℕ, suc, ◌+◌, ◌-◌, ◌==◌, List, [], ◌∷◌, length, codes, Option, None, Some, is_some, Result, Ok, Err, Bool, false, nat_le, if◌then◌else◌}
+use Rattle.std.specs.Prelude.{ℕ, ◌+◌, ◌-◌, ◌==◌, List, [], ◌∷◌, length, codes, Option, None, Some, is_some, Result, Ok, Err, Bool, false, nat_le, if◌then◌else◌}
 use Rattle.std.specs.Str.{bytes_eq}
 use Rattle.pgw_notation.specs.Names.{is_name, type_named}
 use Rattle.pgw_notation.specs.Tokens.{Token, word, question, brackets, opening, closing, comma, at_sign, point, colon, token_bytes}

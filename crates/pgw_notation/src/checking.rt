@@ -87,11 +87,7 @@ fn check_behind_type(
 }
 
 /// Checks a token at this place.
-fn check_token(
-    progress: Progress,
-    token: Token<'_>,
-    place: usize,
-) -> Result<Progress, TypeFault>
+fn check_token(progress: Progress, token: Token<'_>, place: usize) -> Result<Progress, TypeFault>
     ensures { result_map_both sketch (λ e. e) result ≡ check_token place (sketch progress) (token_of token.entry) }
 {
     let Progress { depth, behind } = progress;

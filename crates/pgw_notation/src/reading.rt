@@ -79,109 +79,6 @@ fn record_of(alloc: Global, innermost: Open, last: PgType) -> Result<PgType, Typ
     }
 }
 
-/// Reads a token where a type has to come.
-fn read_base<'a>(
-    alloc: Global,
-    open: &mut Vec<Open>,
-    token: Token<'a>,
-    place: usize,
-) -> Result<Front<'a>, TypeFault>
-    ensures { Answers (λ front. state_of open.new.items front) result
-        (read_token place (in_mode (frames_of open.old.items) no_type) (token_of token.entry)) }
-{
-    match token {
-        Token::Word(name) => match type_named(alloc, name)? {
-            Some(t) => Ok(Front::BehindType(t, 0)),
-            None => Err(TypeFault::Syntax { place }),
-        },
-        Token::Opening => open_record(alloc, open, None, place),
-        Token::At => Ok(Front::BehindAt),
-        _ => Err(TypeFault::Syntax { place }),
-    }
-}
-
-/// Reads a token behind `@`.
-fn read_first_name<'a>(token: Token<'a>, place: usize) -> Result<Front<'a>, TypeFault>
-    ensures { (fs : List Frame) → Answers (λ front. in_mode fs (mode_of front)) result
-        (read_token place (in_mode fs behind_at) (token_of token.entry)) }
-{
-    match token {
-        Token::Word(name) if is_name(name) => Ok(Front::BehindName(name)),
-        _ => Err(TypeFault::Syntax { place }),
-    }
-}
-
-/// Reads a token behind `@` and a name.
-fn read_behind_name<'a>(
-    alloc: Global,
-    first: &'a str,
-    token: Token<'a>,
-    place: usize,
-) -> Result<Front<'a>, TypeFault>
-    ensures { (fs : List Frame) → Answers (λ front. in_mode fs (mode_of front)) result
-        (read_token place (in_mode fs (behind_name first.now)) (token_of token.entry)) }
-{
-    match token {
-        Token::Point => Ok(Front::BehindPoint(first)),
-        Token::Colon => Ok(Front::BehindColon(TypeKey::new(alloc, None, first)?)),
-        _ => Err(TypeFault::Syntax { place }),
-    }
-}
-
-/// Reads a token behind `@`, a schema and a point.
-fn read_second_name<'a>(
-    schema: &'a str,
-    token: Token<'a>,
-    place: usize,
-) -> Result<Front<'a>, TypeFault>
-    ensures { (fs : List Frame) → Answers (λ front. in_mode fs (mode_of front)) result
-        (read_token place (in_mode fs (behind_point schema.now)) (token_of token.entry)) }
-{
-    match token {
-        Token::Word(name) if is_name(name) => Ok(Front::BehindKey(schema, name)),
-        _ => Err(TypeFault::Syntax { place }),
-    }
-}
-
-/// Reads a token behind `@`, a schema, a point and a name.
-fn read_colon<'a>(
-    alloc: Global,
-    schema: &'a str,
-    name: &'a str,
-    token: Token<'a>,
-    place: usize,
-) -> Result<Front<'a>, TypeFault>
-    ensures { (fs : List Frame) → Answers (λ front. in_mode fs (mode_of front)) result
-        (read_token place (in_mode fs (behind_key (record { schema = Some schema.now; name = name.now })))
-        (token_of token.entry)) }
-{
-    match token {
-        Token::Colon => Ok(Front::BehindColon(TypeKey::new(alloc, Some(schema), name)?)),
-        _ => Err(TypeFault::Syntax { place }),
-    }
-}
-
-/// Reads a token behind `@`, a key and a colon.
-fn read_named<'a>(
-    alloc: Global,
-    open: &mut Vec<Open>,
-    key: TypeKey,
-    token: Token<'a>,
-    place: usize,
-) -> Result<Front<'a>, TypeFault>
-    ensures { Answers (λ front. state_of open.new.items front) result
-        (read_token place (in_mode (frames_of open.old.items) (behind_colon (owned_key key))) (token_of token.entry)) }
-{
-    match token {
-        Token::Word("text") => {
-            let t = PgType::Named(key, Box::new(alloc, PgType::Text)?);
-            Ok(Front::BehindType(t, 0))
-        }
-        Token::Opening => open_record(alloc, open, Some(key), place),
-        _ => Err(TypeFault::Syntax { place }),
-    }
-}
-
 /// Reads a token behind a type.
 fn read_behind_type<'a>(
     alloc: Global,
@@ -227,7 +124,7 @@ fn read_behind_type<'a>(
     }
 }
 
-/// Reads a token at this place behind what stands in front of it.
+/// Reads a token at this place, behind what stands in front of it.
 fn read_token<'a>(
     alloc: Global,
     open: &mut Vec<Open>,
@@ -238,16 +135,33 @@ fn read_token<'a>(
     ensures { Answers (λ next. state_of open.new.items next) result
         (read_token place (state_of open.old.items front.entry) (token_of token.entry)) }
 {
-    match front {
-        Front::Start => read_base(alloc, open, token, place),
-        Front::BehindAt => read_first_name(token, place),
-        Front::BehindName(first) => read_behind_name(alloc, first, token, place),
-        Front::BehindPoint(schema) => read_second_name(schema, token, place),
-        Front::BehindKey(schema, name) => read_colon(alloc, schema, name, token, place),
-        Front::BehindColon(key) => read_named(alloc, open, key, token, place),
-        Front::BehindType(t, suffixes) => {
+    match (front, token) {
+        (Front::Start, Token::Word(name)) => match type_named(alloc, name)? {
+            Some(t) => Ok(Front::BehindType(t, 0)),
+            None => Err(TypeFault::Syntax { place }),
+        },
+        (Front::Start, Token::Opening) => open_record(alloc, open, None, place),
+        (Front::Start, Token::At) => Ok(Front::BehindAt),
+        (Front::BehindAt, Token::Word(name)) if is_name(name) => Ok(Front::BehindName(name)),
+        (Front::BehindName(first), Token::Point) => Ok(Front::BehindPoint(first)),
+        (Front::BehindName(first), Token::Colon) => {
+            Ok(Front::BehindColon(TypeKey::new(alloc, None, first)?))
+        }
+        (Front::BehindPoint(schema), Token::Word(name)) if is_name(name) => {
+            Ok(Front::BehindKey(schema, name))
+        }
+        (Front::BehindKey(schema, name), Token::Colon) => {
+            Ok(Front::BehindColon(TypeKey::new(alloc, Some(schema), name)?))
+        }
+        (Front::BehindColon(key), Token::Word("text")) => {
+            let part = Box::new(alloc, PgType::Text)?;
+            Ok(Front::BehindType(PgType::Named(key, part), 0))
+        }
+        (Front::BehindColon(key), Token::Opening) => open_record(alloc, open, Some(key), place),
+        (Front::BehindType(t, suffixes), _) => {
             read_behind_type(alloc, open, t, suffixes, token, place)
         }
+        _ => Err(TypeFault::Syntax { place }),
     }
 }
 

@@ -1,4 +1,4 @@
-use pgw_notation::{TypeFault, parse_type};
+use pgw_notation::{TypeFault, parse_type, type_fault};
 use std::test::Fail;
 
 // texts that no type is written as, and what is printed of them
@@ -38,7 +38,10 @@ fn the_first_fault_of_a_text_is_told(rt: HostRuntime) -> Result<(), Fail> {
     for (text, printed) in FAULTS {
         match parse_type(alloc, text) {
             Ok(_) => panic!(rt; "a type"),
-            Err(fault) => assert!(rt; fault.to_string(alloc)?.as_str() == printed),
+            Err(fault) => {
+                assert!(rt; fault.to_string(alloc)?.as_str() == printed);
+                assert!(rt; type_fault(text) == Some(fault));
+            }
         }
     }
     Ok(())

@@ -1,5 +1,5 @@
 use pgw_meta::PgType;
-use pgw_notation::{TypeFault, parse_type};
+use pgw_notation::{TypeFault, parse_type, type_fault};
 use std::test::Fail;
 
 // the names of the types that have one, and the types as they are printed
@@ -43,6 +43,7 @@ const NAMED: [(&str, &str); 33] = [
 fn each_name_of_a_type_is_read_as_it(rt: HostRuntime) -> Result<(), Fail> {
     let alloc = rt.alloc();
     for (name, printed) in NAMED {
+        assert!(rt; type_fault(name).is_none());
         let t = parse_type(alloc, name)?;
         assert!(rt; format!(in alloc; "{t:?}")?.as_str() == printed);
     }
