@@ -9,8 +9,10 @@ ghost use Rattle.pgw_notation.specs.Views.{token_of, sketch};
 
 use crate::TypeFault;
 use crate::names::{is_name, is_type_name};
-use crate::reading::DEPTH_MAX;
 use crate::tokens::{Token, token_at};
+
+/// How many records are open at most, and how many suffixes stand behind a base.
+pub const DEPTH_MAX: usize = 31;
 
 /// What kind of thing stands in front of the next token, in the innermost record.
 #[derive(Clone, Copy)]

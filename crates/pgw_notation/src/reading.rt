@@ -8,14 +8,11 @@ ghost use Rattle.pgw_notation.specs.Tokens.{tokens};
 ghost use Rattle.pgw_notation.specs.Views.{token_of, frame_of, frames_of, mode_of, state_of};
 
 use crate::TypeFault;
-use crate::checking::type_fault;
+use crate::checking::{DEPTH_MAX, type_fault};
 use crate::names::{is_name, type_named};
 use crate::tokens::{Token, token_at};
 use pgw_meta::{PgType, TypeKey, TypeList};
 use std::alloc::Global;
-
-/// How many records are open at most, and how many suffixes stand behind a base.
-pub const DEPTH_MAX: usize = 31;
 
 /// A record whose `)` is still to come.
 #[derive(Drop)]
