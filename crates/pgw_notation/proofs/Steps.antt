@@ -54,23 +54,14 @@ scalar_found timestamptz = refl
 scalar_found interval = refl
 scalar_found numeric = refl
 
-range_found : (t : Shape) → IsTrue (has_ranges t) → type_named (type_name (range t)) ≡ Some (range t)
-range_found (scalar int4) h = refl
-range_found (scalar int8) h = refl
-range_found (scalar numeric) h = refl
-range_found (scalar date) h = refl
-range_found (scalar timestamp) h = refl
-range_found (scalar timestamptz) h = refl
-range_found _ h = absurd (false≢true h)
-
-multirange_found : (t : Shape) → IsTrue (has_ranges t) → type_named (type_name (multirange t)) ≡ Some (multirange t)
-multirange_found (scalar int4) h = refl
-multirange_found (scalar int8) h = refl
-multirange_found (scalar numeric) h = refl
-multirange_found (scalar date) h = refl
-multirange_found (scalar timestamp) h = refl
-multirange_found (scalar timestamptz) h = refl
-multirange_found _ h = absurd (false≢true h)
+ranges_found : (t : Shape) → IsTrue (has_ranges t) → (type_named (type_name (range t)) ≡ Some (range t)) × (type_named (type_name (multirange t)) ≡ Some (multirange t))
+ranges_found (scalar int4) h = (refl, refl)
+ranges_found (scalar int8) h = (refl, refl)
+ranges_found (scalar numeric) h = (refl, refl)
+ranges_found (scalar date) h = (refl, refl)
+ranges_found (scalar timestamp) h = (refl, refl)
+ranges_found (scalar timestamptz) h = (refl, refl)
+ranges_found _ h = absurd (false≢true h)
 
 -- the components of a record that follow others
 abbrev all_parts : Shapes → Shapes → Shapes
@@ -106,8 +97,8 @@ mutual
   accepts (scalar s) fs rest h = ap (λ r. option_and_then (λ next. steps next rest) (option_map (λ t. in_mode fs (behind_type 0 t)) r)) (scalar_found s)
   accepts (nullable t) fs rest h = ap (steps (in_mode fs no_type)) (append_assoc (notation t) (question ∷ []) rest) ∙ accepts t fs (question ∷ rest) h
   accepts (array t) fs rest h = ap (steps (in_mode fs no_type)) (append_assoc (notation t) (brackets ∷ []) rest) ∙ accepts t fs (brackets ∷ rest) h
-  accepts (range t) fs rest h = ap (λ r. option_and_then (λ next. steps next rest) (option_map (λ t. in_mode fs (behind_type 0 t)) r)) (range_found t h)
-  accepts (multirange t) fs rest h = ap (λ r. option_and_then (λ next. steps next rest) (option_map (λ t. in_mode fs (behind_type 0 t)) r)) (multirange_found t h)
+  accepts (range t) fs rest h = ap (λ r. option_and_then (λ next. steps next rest) (option_map (λ t. in_mode fs (behind_type 0 t)) r)) (ranges_found t h).0
+  accepts (multirange t) fs rest h = ap (λ r. option_and_then (λ next. steps next rest) (option_map (λ t. in_mode fs (behind_type 0 t)) r)) (ranges_found t h).1
   accepts (composite ts) fs rest h = record_accepts ts None fs rest (in_mode fs no_type) refl h.0 h.1
   accepts (named key t) fs rest h =
       ap (steps (in_mode fs behind_at)) (append_assoc (key_notation key) (colon ∷ notation t) rest)
