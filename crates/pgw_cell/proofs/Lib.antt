@@ -13,6 +13,8 @@ pub mod Written
 pub mod Numerics
 pub mod Measured
 pub mod RangeAnswers
+pub mod EqualElements
+pub mod Appending
 pub mod Rewriting
 pub mod Writing
 pub mod WriteRanges

@@ -131,12 +131,12 @@ piece_same known (named k t) p byte h = piece_same known t p byte h
 piece_same known _ p byte h = absurd h
 
 -- The parts of bytes are bytes.
-bytes_left : (xs ys : List ℕ) → IsBytes (xs ++ ys) → IsBytes xs
+pub bytes_left : (xs ys : List ℕ) → IsBytes (xs ++ ys) → IsBytes xs
 bytes_left [] ys byte i = lit< tt
 bytes_left (x ∷ xs) ys byte zero = byte 0
 bytes_left (x ∷ xs) ys byte (suc i) = bytes_left xs ys (λ j. byte (suc j)) i
 
-bytes_right : (xs ys : List ℕ) → IsBytes (xs ++ ys) → IsBytes ys
+pub bytes_right : (xs ys : List ℕ) → IsBytes (xs ++ ys) → IsBytes ys
 bytes_right xs ys byte i = subst (λ (n : ℕ). n < 256) (get_or-append-add xs ys i 0) (byte (length xs + i))
 
 -- The piece of a field in front of bytes.

@@ -62,7 +62,7 @@ piece_appends known t p old new bytes a = λ v e.
 -- ---- pieces of types that have no parts
 
 -- What such a piece is written as again is the canonical piece of what it is read as, whatever the oids are.
-leaf_again : (known : Known) (t : Shape) (p : List ℕ) → IsLeaf t → canonical_read t p ≡ canonical_of (canonical_piece known t) (read_piece t p)
+pub leaf_again : (known : Known) (t : Shape) (p : List ℕ) → IsLeaf t → canonical_read t p ≡ canonical_of (canonical_piece known t) (read_piece t p)
 leaf_again known (scalar s) p leaf = refl
 leaf_again known (nullable t) p leaf = absurd leaf
 leaf_again known (array t) p leaf = absurd leaf
@@ -258,14 +258,7 @@ array_placed old begun head with_elements now oid n flags cells null_there begin
     ∙ ap (λ (k : ℕ). begun ++ (array_head (flags_of (any_null cells)) oid k 1 ++ frames cells)) many
     ∙ ap (λ l. l ++ array_bytes oid cells) begins
 
--- The same of elements whose fields are these bytes.
-pub plain_placed : (old begun head with_elements now bytes : List ℕ) (oid n flags : ℕ) (null_there : Bool) → begun ≡ old ++ null_length → head ≡ begun ++ array_head 0 oid n 1 → with_elements ≡ head ++ bytes → flags ≡ length begun + 4
-    → now ≡ with_nulls null_there flags with_elements → now ≡ (old ++ null_length) ++ (array_head (flags_of null_there) oid n 1 ++ bytes)
-plain_placed old begun head with_elements now bytes oid n flags null_there begins heads elements_are at is =
-    is ∙ ap (with_nulls null_there flags) (elements_are ∙ ap (λ l. l ++ bytes) heads ∙ append_assoc begun (array_head 0 oid n 1) bytes)
-    ∙ flagged begun oid n flags bytes null_there at
-    ∙ ap (λ l. l ++ (array_head (flags_of null_there) oid n 1 ++ bytes)) begins
-
+-- how many bytes the piece of an array has whose elements' fields are these bytes
 pub plain_length : (oid n : ℕ) (null_there : Bool) (bytes : List ℕ) → length (array_head (flags_of null_there) oid n 1 ++ bytes) ≡ 20 + length bytes
 plain_length oid n null_there bytes = length-append (array_head (flags_of null_there) oid n 1) bytes ∙ ap (λ k. k + length bytes) (head_length (flags_of null_there) oid n 1)
 

@@ -5,9 +5,11 @@
 //! named types over one that has values.
 #![tactic(auto)]
 
+mod append;
 mod byte_list;
 mod datum;
 mod digit_list;
+mod equal_elements;
 pub mod laws;
 mod measure;
 mod multirange;
@@ -22,6 +24,7 @@ mod utf8;
 mod value_sizes;
 mod write;
 
+pub use append::{AppendFault, append_cell};
 pub use byte_list::ByteList;
 pub use datum::{BoundDatum, Datum, DatumList, RangeDatum, RangeList};
 pub use digit_list::DigitList;

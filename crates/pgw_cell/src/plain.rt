@@ -7,6 +7,7 @@ ghost use Rattle.pgw_meta.specs.Types.{shape};
 ghost use Rattle.pgw_nested.specs.Array.{array_head, HasOneDimension};
 ghost use Rattle.pgw_cell.specs.Plain.{plain_rule, plain_element, PassesArray, IsPlainElement, ArePlainElements, PassesElements, four_bytes, IsPlainCellOf, IsPlainField, IsSomeNetwork, Passes, IsPassedBefore};
 
+use crate::equal_elements::behind_equal;
 use crate::network::network_field;
 use crate::rewrite::either;
 use crate::sizes::is_nullable;
@@ -330,9 +331,37 @@ fn behind_element(element: PlainElement, bytes: &[u8]) -> Option<(bool, &[u8])>
     }
 }
 
+/// What stands behind so many elements at the front, none of which is null and all of which have the size that the rule asks
+/// for. None where this is not so, or where the rule asks for no size.
+#[inline(always)]
+fn behind_equal_elements(element: PlainElement, count: u32, bytes: &[u8]) -> Option<&[u8]>
+    ensures { IfSome result (λ rest. ArePlainElements element count bytes.now false rest.now) }
+{
+    match element.rule {
+        Rule::One => behind_equal::<5>(1, count, bytes),
+        Rule::Two => behind_equal::<6>(2, count, bytes),
+        Rule::Four => behind_equal::<8>(4, count, bytes),
+        Rule::Six => behind_equal::<10>(6, count, bytes),
+        Rule::Eight => behind_equal::<12>(8, count, bytes),
+        Rule::Sixteen => behind_equal::<20>(16, count, bytes),
+        _ => None,
+    }
+}
+
 /// Whether a null is among so many elements at the front, and what stands behind them. None where one of them is not
 /// canonical as it stands.
+#[inline(always)]
 fn behind_elements(element: PlainElement, count: u32, bytes: &[u8]) -> Option<(bool, &[u8])>
+    ensures { IfSome result (λ x. ArePlainElements element count bytes.now x.0 x.1.now) }
+{
+    match behind_equal_elements(element, count, bytes) {
+        Some(rest) => Some((false, rest)),
+        None => behind_each(element, count, bytes),
+    }
+}
+
+/// The same, element by element.
+fn behind_each(element: PlainElement, count: u32, bytes: &[u8]) -> Option<(bool, &[u8])>
     ensures { IfSome result (λ x. ArePlainElements element count bytes.now x.0 x.1.now) }
 {
     let mut null = false;

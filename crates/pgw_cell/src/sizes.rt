@@ -92,10 +92,18 @@ pub(crate) fn sized_array(element: &PgType, piece: &[u8]) -> Result<usize, Break
 {
     match plain_elements(element, piece) {
         Some((_count, _null, elements)) => Ok((20 + elements.len()).min(MANY)),
-        None => match ArrayPieces::new(piece) {
-            Ok(pieces) => sized_elements(element, pieces),
-            Err(error) => Err(break_of(&error)),
-        },
+        None => sized_other_array(element, piece),
+    }
+}
+
+/// The same, element by element.
+#[cycle(sizes)]
+pub(crate) fn sized_other_array(element: &PgType, piece: &[u8]) -> Result<usize, Break>
+    ensures { result ≡ size_read (piece_size (array (shape element.now))) (read_piece (array (shape element.now)) piece.now) }
+{
+    match ArrayPieces::new(piece) {
+        Ok(pieces) => sized_elements(element, pieces),
+        Err(error) => Err(break_of(&error)),
     }
 }
 

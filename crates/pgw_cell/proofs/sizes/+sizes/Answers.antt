@@ -46,11 +46,11 @@ sized_array-returns-in-Some t c =
     ap Ok c.min.ensures
     ∙ plain_size (shape c.args.element.now) c.args.piece.now c.in-Some._count c.in-Some._null c.in-Some.elements.now (λ i. omega (arith, c.type_inv.piece i)) c.in-Some.ensures
 
-pub sized_array-returns-in-Ok : goal.sized_array-returns-in-Ok
-sized_array-returns-in-Ok t c = c.sized_elements.ensures ∙ array_sizes (shape c.args.element.now) c.args.piece.now (elements_of c.in-Ok.pieces) c.in-Ok.ensures
+pub sized_other_array-returns-in-Ok : goal.sized_other_array-returns-in-Ok
+sized_other_array-returns-in-Ok t c = c.sized_elements.ensures ∙ array_sizes (shape c.args.element.now) c.args.piece.now (elements_of c.in-Ok.pieces) c.in-Ok.ensures
 
-pub sized_array-returns-in-Err : goal.sized_array-returns-in-Err
-sized_array-returns-in-Err t c =
+pub sized_other_array-returns-in-Err : goal.sized_other_array-returns-in-Err
+sized_other_array-returns-in-Err t c =
     let s = array (shape c.args.element.now) in
     ap Err c.break_of.ensures ∙ sym (ap (size_read (piece_size s)) (array_broken (shape c.args.element.now) c.args.piece.now c.in-Err.error c.in-Err.ensures))
 
