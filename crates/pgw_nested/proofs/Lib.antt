@@ -18,6 +18,6 @@ pub mod RangeBreaking
 pub mod WorkedRanges
 pub mod Steps
 mod Cut
-mod Bounds
+pub mod Bounds
 mod RangeWritings
 mod RangesRead

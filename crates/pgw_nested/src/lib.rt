@@ -30,4 +30,4 @@ pub use multirange_pieces::MultirangePieces;
 pub use multirange_writing::begin_multirange;
 pub use range_pieces::{BoundPiece, RangePieces};
 pub use range_writing::{BoundKind, begin_range};
-pub use reserved::{close_length, place_array, place_length};
+pub use reserved::{close_length, place_array, place_length, place_range};

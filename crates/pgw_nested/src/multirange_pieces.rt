@@ -27,6 +27,13 @@ impl<'a> MultirangePieces<'a> {
         Ok(MultirangePieces { rest, left })
     }
 
+    /// How many ranges are left to be given, by the count that the field states.
+    pub fn left(&self) -> u32
+        ensures { result ≡ (ranges_of self.now).left }
+    {
+        self.left
+    }
+
     /// The next range. None where all were given. `ShortBuffer` where the field ends inside the length, `NegativeSize`
     /// with a length below 0, and `ElementBytes` with a length that is more than the bytes behind it. A call that is
     /// refused changes nothing, so that the next one is refused alike.

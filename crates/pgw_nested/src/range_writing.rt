@@ -27,7 +27,7 @@ pub enum BoundKind {
 }
 
 /// The flags of a lower bound.
-fn lower_bits(kind: BoundKind) -> u8
+pub(crate) fn lower_bits(kind: BoundKind) -> u8
     ensures value { result ≡ lower_flags (bound_of_kind kind) }
     ensures few { result ≤ 8 }
 {
@@ -39,7 +39,7 @@ fn lower_bits(kind: BoundKind) -> u8
 }
 
 /// The flags of an upper bound.
-fn upper_bits(kind: BoundKind) -> u8
+pub(crate) fn upper_bits(kind: BoundKind) -> u8
     ensures value { result ≡ upper_flags (bound_of_kind kind) }
     ensures few { result ≤ 16 }
 {

@@ -1,9 +1,12 @@
-ghost use Rattle.std.specs.Prelude.{◌≡◌, ◌+◌, ◌-◌, ◌≤◌, ◌++◌, length};
+ghost use Rattle.std.specs.Prelude.{◌≡◌, ◌+◌, ◌-◌, ◌≤◌, ◌++◌, [], ◌∷◌, length};
 ghost use Rattle.std.specs.Int.{to_be_bytes, w32};
 ghost use Rattle.pgw_wire.specs.Room.{overwritten};
 ghost use Rattle.pgw_nested.specs.Array.{array_head};
 ghost use Rattle.pgw_nested.specs.Marks.{null_length};
+ghost use Rattle.pgw_nested.specs.RangeWritten.{flags_of_kinds};
 
+use crate::BoundKind;
+use crate::range_writing::{lower_bits, upper_bits};
 use pgw_wire::ByteBuffer;
 
 /// Begins an array as `begin_array` does, in room that was made for its 20 bytes, with at most 2147483647 elements. The
@@ -20,6 +23,15 @@ pub fn place_array(out: &mut ByteBuffer, element_oid: u32, count: u32) -> usize
     let [e, f, g, h] = count.to_be_bytes();
     out.push_reserved(&[0, 0, 0, 1, 0, 0, 0, 0, a, b, c, d, e, f, g, h, 0, 0, 0, 1]);
     out.len() - 16
+}
+
+/// Begins a range as `begin_range` does, in room that was made for the byte of its flags. It takes no memory.
+pub fn place_range(out: &mut ByteBuffer, lower_kind: BoundKind, upper_kind: BoundKind)
+    requires { 1 ≤ out.old.spare }
+    ensures bytes { out.new.bytes ≡ out.old.bytes ++ (flags_of_kinds lower_kind upper_kind ∷ []) }
+    ensures spare { out.new.spare + 1 ≡ out.old.spare }
+{
+    out.push_reserved(&[lower_bits(lower_kind) + upper_bits(upper_kind)]);
 }
 
 /// Begins a piece as `begin_piece` does, in room that was made for the 4 bytes of its length. The answer is their
