@@ -35,19 +35,21 @@ module _ {A : Type 0} (Spell : Cell → A → Type 0) (Refuse : Cell → SqlErro
     spelled = s.so_far.spelled;
   }
 
-  pub range_reached : (values : List A) (before now : Elements) (c : Cell) → RangesSoFar Spell bytes values before → IsNext c before now → ReachesRange Spell bytes
-  range_reached values before now c s n = record {
-    ranges = s.all;
-    begins = s.begins;
-    cells = s.so_far.cells;
-    values = values;
-    cell = c;
-    behind = now.rest;
-    fewer = omega (arith, s.so_far.many, n.left);
-    framed = (s.so_far.framed, subst (λ (b : Bool). IsFramed b c) s.so_far.nulls n.framed);
-    is = s.so_far.is ∙ ap (λ (x : List ℕ). frames s.so_far.cells ++ x) n.is;
-    spelled = s.so_far.spelled;
-  }
+  pub range_reached : (values : List A) (before now : Elements) (r : Option (Bor (List ℕ))) (p : Bor (List ℕ)) → RangesSoFar Spell bytes values before → r ≡ Some p → GivesRange before (Ok r) now → ReachesRange Spell bytes
+  range_reached values before now r p s is given =
+      let n = range_given before now r p is given in
+      record {
+        ranges = s.all;
+        begins = s.begins;
+        cells = s.so_far.cells;
+        values = values;
+        cell = Some p.now;
+        behind = now.rest;
+        fewer = omega (arith, s.so_far.many, n.left);
+        framed = (s.so_far.framed, subst (λ (b : Bool). IsFramed b (Some p.now)) s.so_far.nulls n.framed);
+        is = s.so_far.is ∙ ap (λ (x : List ℕ). frames s.so_far.cells ++ x) n.is;
+        spelled = s.so_far.spelled;
+      }
 
   pub range_not_given : (values : List A) (before : Elements) (e : SqlError) → RangesSoFar Spell bytes values before → 0 < before.left → HasNoFrame before.nulls before.rest e → RefusesMultirange Spell Refuse bytes e × IsRefusal e
   range_not_given values before e s some h =

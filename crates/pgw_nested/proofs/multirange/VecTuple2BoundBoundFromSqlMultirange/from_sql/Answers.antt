@@ -41,7 +41,7 @@ returns-in_err-range g c =
           (λ r. range_refused reads refuses bytes c.bounds.items.items before now piece e c.bounds.invariant next
           (subst (λ (x : List ℕ). refuses (Some x) e) c.new-in-Some.ensures.bytes r))
           (λ _. refl) c.in_err-range.ensures;
-      memory = λ is. range_reached reads refuses bytes c.bounds.items.items before now piece c.bounds.invariant next;
+      memory = λ is. range_reached reads refuses bytes c.bounds.items.items before now c.in_ok-piece.field-0 c.in-Some.piece c.bounds.invariant c.in-Some.is c.in_ok-piece.ensures;
     }
 
 pub bounds-preserved : goal.bounds-preserved
@@ -60,11 +60,7 @@ bounds-preserved g c =
 
 pub returns-in_err-push-clause-memory : goal.returns-in_err-push-clause-memory
 returns-in_err-push-clause-memory g c =
-    let bytes = c.args.value.raw_value.now in
     let reads = ReadsPiece (IsRange g.T.FromSql.reads g.T.Defaultable.DEFAULT) in
     let refuses = RefusesPiece (RefusesRange g.T.FromSql.reads g.T.FromSql.refuses) in
-    let piece = Some c.in-Some.piece.now in
-    let before = ranges_of c.bounds.pieces in
-    let now = ranges_of c.next_piece.new.self in
-    let next = range_given reads refuses bytes before now c.in_ok-piece.field-0 c.in-Some.piece c.in-Some.is c.in_ok-piece.ensures in
-    λ is. range_reached reads refuses bytes c.bounds.items.items before now piece c.bounds.invariant next
+    λ is. range_reached reads refuses c.args.value.raw_value.now c.bounds.items.items (ranges_of c.bounds.pieces)
+    (ranges_of c.next_piece.new.self) c.in_ok-piece.field-0 c.in-Some.piece c.bounds.invariant c.in-Some.is c.in_ok-piece.ensures
