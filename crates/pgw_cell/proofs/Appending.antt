@@ -4,7 +4,7 @@ use Rattle.pgw_wire.specs.Cell.{Cell, frame}
 use Rattle.pgw_wire.specs.declared.kind.Break.{Break}
 use Rattle.pgw_meta.specs.Known.{Known}
 use Rattle.pgw_meta.specs.NamedOids.{oids_of}
-use Rattle.pgw_meta.specs.Shape.{Shape, array, range, multirange}
+use Rattle.pgw_meta.specs.Shape.{Shape, array, range}
 use Rattle.pgw_meta.specs.Types.{shape}
 use Rattle.pgw_meta.specs.declared.key.TypeKey.{TypeKey}
 use Rattle.pgw_meta.specs.declared.types.PgType.{PgType, Nullable, Named}
