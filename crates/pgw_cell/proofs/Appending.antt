@@ -4,25 +4,29 @@ use Rattle.pgw_wire.specs.Cell.{Cell, frame}
 use Rattle.pgw_wire.specs.declared.kind.Break.{Break}
 use Rattle.pgw_meta.specs.Known.{Known}
 use Rattle.pgw_meta.specs.NamedOids.{oids_of}
-use Rattle.pgw_meta.specs.Shape.{Shape, array}
+use Rattle.pgw_meta.specs.Shape.{Shape, array, range}
 use Rattle.pgw_meta.specs.Types.{shape}
 use Rattle.pgw_meta.specs.declared.key.TypeKey.{TypeKey}
 use Rattle.pgw_meta.specs.declared.types.PgType.{PgType, Nullable, Named}
 use Rattle.pgw_scalar.proofs.Readers.{IsBytes, ok_is, err_is, never_both}
 use Rattle.pgw_nested.specs.Array.{array_head, flags_of}
+use Rattle.pgw_nested.specs.Range.{Bounds, range_bytes}
 use Rattle.pgw_nested.proofs.Beginnings.{head_length}
-use Rattle.pgw_cell.specs.Value.{Value}
+use Rattle.pgw_cell.specs.Value.{Value, range_of}
+use Rattle.pgw_cell.specs.Ranges.{range_spelling}
 use Rattle.pgw_cell.specs.Built.{IsBuilt}
 use Rattle.pgw_cell.specs.Pieces.{HasPiece, canonical_piece, piece_size, read_piece}
 use Rattle.pgw_cell.specs.Cells.{Spells, Breaks, Fits, canonical_cell, canonical_size, read_value}
-use Rattle.pgw_cell.specs.Written.{AreBytes, HasRoom, canonical_of, canonical_read, counted, size_read}
+use Rattle.pgw_cell.specs.Written.{AreBytes, HasRoom, canonical_of, canonical_read, counted, size_read, range_read}
 use Rattle.pgw_cell.specs.Appending.{Appended, has_field, has_break, is_long, lacks_memory}
 use Rattle.pgw_cell.specs.declared.append.AppendFault.{AppendFault}
 use Rattle.pgw_cell.specs.declared.append.AppendFault.TheVariants.{Break as Broken, TooLong, NoMemory}
 use Rattle.pgw_cell.proofs.ArrayPieces.{frame_length}
 use Rattle.pgw_cell.proofs.Counted.{IsLeaf, piece_counted, size_ok}
+use Rattle.pgw_cell.proofs.Multiranges.{no_oids}
 use Rattle.pgw_cell.proofs.Pieces.{piece_told, piece_written}
 use Rattle.pgw_cell.proofs.PlainFields.{ReadsPlain}
+use Rattle.pgw_cell.proofs.RangeAnswers.{range_was_read}
 use Rattle.pgw_cell.proofs.Reading.{value_again, value_refused, value_spelled, value_broken}
 use Rattle.pgw_cell.proofs.Rewriting.{cell_bytes, piece_bytes, piece_read, leaf_again, leaf_bytes}
 
@@ -123,6 +127,20 @@ counted_room known t p n most spare x fits max room = record {
   room = omega (arith, x.long, x.many, fits, max, room);
   small = omega (arith, x.long, x.many, fits, max);
 }
+
+-- ---- ranges
+
+-- the value of a range whose bounds are written as these cells
+pub record WrittenRange (t : Shape) (p : List ℕ) (cells : Bounds Cell) : Type 0 where
+  pub value : Value
+  pub reads : read_piece (range t) p ≡ Ok value
+  pub is : (range_spelling t).canonical value ≡ range_bytes cells
+  pub many : piece_size (range t) value ≡ length (range_bytes cells)
+
+pub range_written : (t : Shape) (p : List ℕ) (cells : Bounds Cell) → IsBytes p → Ok cells ≡ range_read t p → WrittenRange t p cells
+range_written t p cells bytes e =
+    let r = range_was_read t p cells e in
+    record { value = range_of r.bounds; reads = r.reads; is = r.bytes; many = piece_long no_oids (range t) p (range_of r.bounds) bytes r.reads ∙ ap length r.bytes }
 
 -- ---- cells
 

@@ -21,7 +21,7 @@ use Rattle.pgw_nested.specs.Reading.{◌>>=◌, word_at, read_cells}
 use Rattle.pgw_nested.specs.RangeReading.{read_counted}
 use Rattle.pgw_nested.specs.Marks.{null_length}
 use Rattle.pgw_nested.proofs.Cutting.{word_again}
-use Rattle.pgw_nested.proofs.ArrayFields.{bind_ok}
+use Rattle.pgw_nested.proofs.Steps.{bind_ok}
 use Rattle.pgw_nested.proofs.Exact.{ok_is}
 use Rattle.pgw_cell.specs.Value.{Value, multirange_of, ranges_in as list_in}
 use Rattle.pgw_cell.specs.Spellings.{read_as}

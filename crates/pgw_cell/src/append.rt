@@ -2,18 +2,21 @@ ghost use Rattle.std.specs.Prelude.{◌≡◌, ◌⊎◌, ◌<◌, ◌≤◌, �
 ghost use Rattle.pgw_wire.specs.Cell.{cell_of, frame};
 ghost use Rattle.pgw_wire.specs.declared.kind.Break.{Break as Kind};
 ghost use Rattle.pgw_meta.specs.NamedOids.{known_of};
-ghost use Rattle.pgw_meta.specs.Shape.{array};
+ghost use Rattle.pgw_meta.specs.Shape.{array, range, multirange};
 ghost use Rattle.pgw_meta.specs.Types.{shape};
 ghost use Rattle.pgw_cell.specs.Value.{Value};
 ghost use Rattle.pgw_cell.specs.Built.{IsBuilt};
+ghost use Rattle.pgw_cell.specs.Ranges.{range_spelling, multirange_spelling};
 ghost use Rattle.pgw_cell.specs.Pieces.{canonical_piece, piece_size, read_piece};
 ghost use Rattle.pgw_cell.specs.Cells.{Spells, Breaks, Fits, canonical_cell, canonical_size, read_value};
 ghost use Rattle.pgw_cell.specs.Written.{AreBytes, bytes_of};
 ghost use Rattle.pgw_cell.specs.Appending.{Appended};
 
 use crate::measure::is_of_bytes;
+use crate::multirange::{push_multirange, sized_multirange};
 use crate::piece::{Canonical, are_bytes, written};
 use crate::plain::plain_elements;
+use crate::range::written_range;
 use crate::rewrite::{NULL, push_other_array, push_plain_array};
 use crate::sizes::{is_nullable, sized_other_array};
 use pgw_meta::{FoundOids, PgType, oid_of};
@@ -123,6 +126,52 @@ fn append_other_array(
     }
 }
 
+/// The same of a piece of a range over such a part.
+#[inline(never)]
+fn append_range(
+    part: &PgType,
+    piece: &[u8],
+    most: u32,
+    out: &mut ByteBuffer,
+) -> Result<(), AppendFault>
+    requires { most ≤ 2147483647 }
+    ensures { Appended (read_piece (range (shape part.now)) piece.now) (piece_size (range (shape part.now)))
+        (λ v. frame (Some ((range_spelling (shape part.now)).canonical v))) most out.old.bytes out.new.bytes result }
+{
+    match written_range(part, piece) {
+        Ok(range) => {
+            let size = range.len();
+            make_room(size, most, out)?;
+            out.push_reserved(&(size as u32).to_be_bytes());
+            range.push_reserved(out);
+            Ok(())
+        }
+        Err(kind) => Err(AppendFault::Break(kind)),
+    }
+}
+
+/// The same of a piece of a multirange over such a part. Its ranges are counted first.
+#[inline(never)]
+fn append_multirange(
+    part: &PgType,
+    piece: &[u8],
+    most: u32,
+    out: &mut ByteBuffer,
+) -> Result<(), AppendFault>
+    requires { most ≤ 2147483647 }
+    ensures { Appended (read_piece (multirange (shape part.now)) piece.now) (piece_size (multirange (shape part.now)))
+        (λ v. frame (Some ((multirange_spelling (shape part.now)).canonical v))) most out.old.bytes out.new.bytes result }
+{
+    match sized_multirange(part, piece) {
+        Ok(size) => {
+            make_room(size, most, out)?;
+            push_multirange(part, piece, out);
+            Ok(())
+        }
+        Err(kind) => Err(AppendFault::Break(kind)),
+    }
+}
+
 /// The same of a piece of any type.
 #[cycle(appending)]
 #[inline(always)]
@@ -142,6 +191,8 @@ fn append_piece(
             append_part(part, piece, most, found, out)
         }
         PgType::Array(element) => append_array(element, piece, most, found, out),
+        PgType::Range(part) => append_range(part, piece, most, out),
+        PgType::Multirange(part) => append_multirange(part, piece, most, out),
         _ => match written(t, piece) {
             Ok(written) => append_written(written, most, out),
             Err(kind) => Err(AppendFault::Break(kind)),

@@ -2,7 +2,7 @@ use Rattle.std.proofs.Common.{◌∙◌, ℕ, List, length, Some, Result, Err, r
 use Rattle.pgw_wire.specs.Cell.{frame}
 use Rattle.pgw_wire.specs.declared.kind.Break.{Break}
 use Rattle.pgw_meta.specs.NamedOids.{known_of}
-use Rattle.pgw_meta.specs.Shape.{array}
+use Rattle.pgw_meta.specs.Shape.{array, range, multirange}
 use Rattle.pgw_meta.specs.Types.{shape}
 use Rattle.pgw_meta.specs.declared.types.PgType.{PgType}
 use Rattle.pgw_cell.specs.Pieces.{piece_size, read_piece}
@@ -22,6 +22,24 @@ append_piece-returns-in-Array t c =
     subst (λ (u : PgType). IsAppendedOf known u p m old c.append_array.new.out.bytes c.append_array.result) (sym c.in-Array.is)
     (subst (λ (u : PgType). Appended (read_piece (array (shape u)) p) (piece_size (array (shape u))) (piece_bytes known (array (shape u))) m old c.append_array.new.out.bytes c.append_array.result) c.deref.ensures c.append_array.ensures)
 
+pub append_piece-returns-in-Range : goal.append_piece-returns-in-Range
+append_piece-returns-in-Range t c =
+    let known = known_of c.args.found.now in
+    let p = c.args.piece.now in
+    let m = c.args.most in
+    let old = c.args.out.now.bytes in
+    subst (λ (u : PgType). IsAppendedOf known u p m old c.append_range.new.out.bytes c.append_range.result) (sym c.in-Range.is)
+    (subst (λ (u : PgType). Appended (read_piece (range (shape u)) p) (piece_size (range (shape u))) (piece_bytes known (range (shape u))) m old c.append_range.new.out.bytes c.append_range.result) c.deref-in-Range.ensures c.append_range.ensures)
+
+pub append_piece-returns-in-Multirange : goal.append_piece-returns-in-Multirange
+append_piece-returns-in-Multirange t c =
+    let known = known_of c.args.found.now in
+    let p = c.args.piece.now in
+    let m = c.args.most in
+    let old = c.args.out.now.bytes in
+    subst (λ (u : PgType). IsAppendedOf known u p m old c.append_multirange.new.out.bytes c.append_multirange.result) (sym c.in-Multirange.is)
+    (subst (λ (u : PgType). Appended (read_piece (multirange (shape u)) p) (piece_size (multirange (shape u))) (piece_bytes known (multirange (shape u))) m old c.append_multirange.new.out.bytes c.append_multirange.result) c.deref-in-Multirange.ensures c.append_multirange.ensures)
+
 pub append_piece-returns-in-Ok : goal.append_piece-returns-in-Ok
 append_piece-returns-in-Ok t c =
     let s = shape c.args.t.now in
@@ -29,7 +47,7 @@ append_piece-returns-in-Ok t c =
     let m = c.args.most in
     let old = c.args.out.now.bytes in
     let new = c.append_written.new.out.bytes in
-    leaf_appended (known_of c.args.found.now) s p m old new c.append_written.result (is_leaf c.args.t.now c.in_default.not-Nullable c.in_default.not-Named c.in_default.not-Array) (λ i. omega (arith, c.type_inv.piece i))
+    leaf_appended (known_of c.args.found.now) s p m old new c.append_written.result (is_leaf c.args.t.now (record { nullable = c.in_default.not-Nullable; named = c.in_default.not-Named; array = c.in_default.not-Array; range = c.in_default.not-Range; multirange = c.in_default.not-Multirange })) (λ i. omega (arith, c.type_inv.piece i))
     (subst (λ (x : Result (List ℕ) Break). Appended x (λ b. length b) (λ b. frame (Some b)) m old new c.append_written.result) (sym (ap written_bytes c.in-Ok.is) ∙ c.written.ensures) c.append_written.ensures)
 
 pub append_piece-returns-in-Err : goal.append_piece-returns-in-Err
@@ -38,7 +56,7 @@ append_piece-returns-in-Err t c =
     let p = c.args.piece.now in
     let m = c.args.most in
     let old = c.args.out.now.bytes in
-    leaf_appended (known_of c.args.found.now) s p m old old (Err _) (is_leaf c.args.t.now c.in_default.not-Nullable c.in_default.not-Named c.in_default.not-Array) (λ i. omega (arith, c.type_inv.piece i))
+    leaf_appended (known_of c.args.found.now) s p m old old (Err _) (is_leaf c.args.t.now (record { nullable = c.in_default.not-Nullable; named = c.in_default.not-Named; array = c.in_default.not-Array; range = c.in_default.not-Range; multirange = c.in_default.not-Multirange })) (λ i. omega (arith, c.type_inv.piece i))
     (has_break c.in-Err.kind (sym c.written.ensures ∙ ap written_bytes c.in-Err.is) refl refl)
 
 pub append_piece-returns-in-Nullable : goal.append_piece-returns-in-Nullable
