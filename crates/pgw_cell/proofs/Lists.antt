@@ -2,7 +2,7 @@
 use Rattle.std.proofs.Common.{◌≡◌, map, refl, sym, ap, ◌∙◌}
 use mathlib.Core.Former.{Count}
 use Rattle.pgw_cell.specs.Value.{value_then, list, list_of, multirange, multirange_of, range, values}
-use Rattle.pgw_cell.specs.Data.{value_of, bound_of, row_values, row_ranges, list_ranges, data_of, values_of, value_of_range, range_values, ranges_of}
+use Rattle.pgw_cell.specs.Data.{value_of, bound_of, row_values, row_ranges, list_ranges, data_of, values_of, value_of_range, range_values}
 use Rattle.pgw_cell.specs.declared.datum.RangeList.{RangeList, out-RangeList, RangeList', Row_of-RangeDatum, end_of-RangeDatum, more_of-RangeDatum, items-the_row-RangeDatum, items_shown-the_row-RangeDatum-1}
 use Rattle.pgw_cell.specs.declared.datum.DatumList.{DatumList}
 use Rattle.pgw_cell.specs.declared.datum.Datum.{Datum, List as list_datum, Ranges, List', Row_of-Datum, end_of-Datum, more_of-Datum, items-the_row-Datum, items_hidden-the_row-Datum-0}

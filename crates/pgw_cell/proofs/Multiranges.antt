@@ -1,23 +1,21 @@
 -- What multiranges are read and written as, by their ranges.
-use Rattle.std.proofs.Common.{◌≡◌, ◌≤◌, ◌+◌, ◌-◌, ◌<◌, ℕ, Bool, false, List, [], ◌∷◌, ◌++◌, length, map, Option, None, Some, Result, Ok, Err, w32, refl, sym, ap, subst, ◌∙◌, arith, append_assoc}
+use Rattle.std.proofs.Common.{◌≡◌, ◌≤◌, ◌+◌, ◌-◌, ◌<◌, ℕ, List, ◌++◌, length, map, Option, None, Some, Result, Ok, Err, w32, refl, sym, ap, subst, ◌∙◌, arith, append_assoc}
 use Rattle.std.specs.Borrow.{Bor}
 use Rattle.std.specs.Int.{to_be_bytes}
 use Rattle.std.proofs.lemmas.List.{length-append, length-map}
 use Rattle.std.proofs.lemmas.Bool.{lt-ltb}
 use Rattle.pgw_wire.specs.Cell.{Cell, frame}
-use Rattle.pgw_wire.specs.Room.{Room}
 use Rattle.pgw_wire.specs.declared.kind.Break.{Break}
 use Rattle.pgw_wire.specs.declared.sql_error.SqlError.{SqlError}
 use Rattle.pgw_wire.specs.declared.sql_error.SqlError.TheVariants.{ShortBuffer}
 use Rattle.pgw_meta.specs.Known.{Known}
 use Rattle.pgw_meta.specs.Shape.{Shape, range, multirange}
-use Rattle.pgw_scalar.proofs.Readers.{IsBytes}
 use Rattle.pgw_nested.specs.Frames.{frames}
 use Rattle.pgw_nested.specs.Array.{Elements, kind_named}
-use Rattle.pgw_nested.specs.Multirange.{ranges_in, BeginsMultirange, multirange_bytes}
+use Rattle.pgw_nested.specs.Multirange.{BeginsMultirange, multirange_bytes}
 use Rattle.pgw_nested.specs.Pieces.{IsNext}
 use Rattle.pgw_nested.specs.RangePieces.{GivesRange}
-use Rattle.pgw_nested.specs.Reading.{◌>>=◌, word_at, read_cells}
+use Rattle.pgw_nested.specs.Reading.{◌>>=◌}
 use Rattle.pgw_nested.specs.RangeReading.{read_counted}
 use Rattle.pgw_nested.specs.Marks.{null_length}
 use Rattle.pgw_nested.proofs.Cutting.{word_again}
@@ -26,7 +24,7 @@ use Rattle.pgw_nested.proofs.Exact.{ok_is}
 use Rattle.pgw_cell.specs.Value.{Value, multirange_of, ranges_in as list_in}
 use Rattle.pgw_cell.specs.Spellings.{read_as}
 use Rattle.pgw_cell.specs.Arrays.{frames_size}
-use Rattle.pgw_cell.specs.Ranges.{range_spelling, multirange_spelling}
+use Rattle.pgw_cell.specs.Ranges.{multirange_spelling}
 use Rattle.pgw_cell.specs.Pieces.{piece_size, read_piece}
 use Rattle.pgw_cell.specs.Cells.{canonical_cell, canonical_size, read_value}
 use Rattle.pgw_cell.specs.Written.{counted, size_read, cells_read, sizes_read, cells_written, HasRoom}
@@ -34,7 +32,7 @@ use Rattle.pgw_cell.proofs.Told.{as_ok}
 use Rattle.pgw_cell.proofs.ArrayPieces.{frame_length}
 use Rattle.pgw_cell.proofs.RangePieces.{ranges_are}
 use Rattle.pgw_cell.proofs.Elements.{elements_many}
-use Rattle.pgw_cell.proofs.Rewriting.{cell_bytes, element_bytes, cells_many}
+use Rattle.pgw_cell.proofs.Rewriting.{element_bytes}
 
 -- The ranges of a multirange state no oids, so that it does not matter what is known of these.
 abbrev pub no_oids : Known

@@ -1,16 +1,15 @@
 -- What a range is read as whose bounds are written so.
-use Rattle.std.proofs.Common.{◌≡◌, ◌+◌, ℕ, List, length, Option, None, Some, Result, Ok, Err, refl, sym, ap, ◌∙◌}
+use Rattle.std.proofs.Common.{◌≡◌, ℕ, List, length, Option, None, Some, Ok, Err, refl, sym, ap, ◌∙◌}
 use Rattle.pgw_wire.specs.Cell.{Cell}
 use Rattle.pgw_wire.specs.declared.kind.Break.{Break}
-use Rattle.pgw_wire.specs.declared.kind.Break.TheVariants.{Size}
 use Rattle.pgw_meta.specs.Shape.{Shape, range}
 use Rattle.pgw_scalar.proofs.Readers.{IsBytes, ok_is}
 use Rattle.pgw_nested.specs.Range.{Bounds, range_bytes}
-use Rattle.pgw_cell.specs.Value.{Value, range_of, bounds_in}
+use Rattle.pgw_cell.specs.Value.{Value, range_of}
 use Rattle.pgw_cell.specs.Spellings.{read_as}
 use Rattle.pgw_cell.specs.Ranges.{bound_cells, default_of, part_spelling, ranges_over, range_spelling, bounds_over, read_bounds}
 use Rattle.pgw_cell.specs.Pieces.{piece_size, read_piece}
-use Rattle.pgw_cell.specs.Written.{counted, size_read, answer_by, range_read}
+use Rattle.pgw_cell.specs.Written.{counted, size_read, range_read}
 use Rattle.pgw_cell.proofs.RangePieces.{bounds_are, range_told, range_written}
 use Rattle.pgw_cell.proofs.RangeBounds.{answer_ok, answer_err}
 

@@ -9,7 +9,7 @@ use Rattle.pgw_meta.specs.Shape.{Shape}
 use Rattle.pgw_nested.specs.Array.{kind_named}
 use Rattle.pgw_nested.specs.Reading.{◌>>=◌, named}
 use Rattle.pgw_nested.specs.Flags.{has, empty}
-use Rattle.pgw_nested.specs.Range.{Bounds, HasUpper, no_value, as_range}
+use Rattle.pgw_nested.specs.Range.{Bounds, HasUpper, no_value}
 use Rattle.pgw_nested.specs.RangePieces.{bound_of, Coming, first_under, BeginsRange, IsNextBound, HasNoBound, GivesBound}
 use Rattle.pgw_nested.specs.RangeReading.{upper_at, read_bound, read_range_by, read_range}
 use Rattle.pgw_nested.specs.declared.range_pieces.BoundPiece.{BoundPiece}
@@ -17,11 +17,11 @@ use Rattle.pgw_nested.specs.declared.range_pieces.Next.{Next}
 use Rattle.pgw_nested.specs.declared.range_pieces.Next.TheVariants.{Lower, Upper, Nothing}
 use Rattle.pgw_nested.proofs.Exact.{ok_is}
 use Rattle.pgw_nested.proofs.RangeFields.{lower_again, no_lower_again, upper_again, no_upper_again}
-use Rattle.pgw_nested.proofs.Bounds.{LowerGiven, lower_given}
+use Rattle.pgw_nested.proofs.Bounds.{LowerGiven}
 use Rattle.pgw_cell.specs.Value.{Value}
 use Rattle.pgw_cell.specs.Nulls.{read_by}
-use Rattle.pgw_cell.specs.Ranges.{bound_cell, bound_cells, default_of, part_spelling, bounds_over}
-use Rattle.pgw_cell.specs.Written.{bytes_of, cell_of_bound, default_answer, default_bytes, answer_by, bound_answer, bound_read, range_read}
+use Rattle.pgw_cell.specs.Ranges.{bound_cells, default_of, part_spelling, bounds_over}
+use Rattle.pgw_cell.specs.Written.{bytes_of, default_answer, default_bytes, answer_by, range_read}
 use Rattle.pgw_cell.specs.declared.piece.Canonical.{Canonical}
 
 -- what an answer says of what was read

@@ -1,15 +1,14 @@
 -- Pieces of ranges and of multiranges, where the pieces of their bounds are read and written as is told.
-use Rattle.std.proofs.Common.{rules, ◌≡◌, ◌≤◌, ◌<◌, ◌+◌, ◌^◌, ℕ, pos, false, List, [], ◌∷◌, length, map, Option, None, Some, w32, refl, sym, ap, ◌∙◌, subst, arith}
+use Rattle.std.proofs.Common.{rules, ◌≡◌, ◌≤◌, ◌+◌, ℕ, pos, false, List, [], ◌∷◌, length, map, Option, None, Some, w32, refl, sym, ap, ◌∙◌, subst, arith}
 use Rattle.std.specs.List.{AllByRecursion}
 use Rattle.std.specs.Int.{to_be_bytes}
 use Rattle.std.specs.Range.Bound.{bound_map}
 use Rattle.std.specs.declared.ops.Bound.{Bound}
 use Rattle.std.specs.declared.ops.Bound.TheVariants.{Unbounded, Included, Excluded}
 use Rattle.std.proofs.lemmas.List.{length-append, length-map}
-use Rattle.pgw_wire.specs.Cell.{frame, size_of}
-use Rattle.pgw_meta.specs.Shape.{Scalar, bool, char, int2, int4, int8, oid, text, bytea, uuid, money, pg_lsn, macaddr, macaddr8, inet, cidr, date, time, timestamp, timestamptz, interval, numeric, Shape, scalar}
+use Rattle.pgw_meta.specs.Shape.{Scalar, int4, int8, date, timestamp, timestamptz, numeric, Shape, scalar}
 use Rattle.pgw_nested.specs.Frames.{frames, IsFramed, AreFramed}
-use Rattle.pgw_nested.specs.Range.{Bounds, SpellsBound, SpellParts, no_value, IsRange, lower_flags, upper_flags, bound_bytes, range_bytes}
+use Rattle.pgw_nested.specs.Range.{Bounds, SpellsBound, SpellParts, IsRange, bound_bytes, range_bytes}
 use Rattle.pgw_nested.specs.Multirange.{IsMultirange, multirange_bytes}
 use Rattle.pgw_nested.proofs.RangeFields.{range_exact}
 use Rattle.pgw_nested.proofs.MultirangeFields.{multirange_exact}
@@ -19,7 +18,7 @@ use Rattle.pgw_cell.specs.Value.{Value, null, natural, numeric as numeric_value,
 use Rattle.pgw_cell.specs.Spellings.{Spelling, spelling, no_spelling}
 use Rattle.pgw_cell.specs.Nulls.{HasCell, SpellsCell, BreaksCell, cell_by, size_by, read_by}
 use Rattle.pgw_cell.specs.Arrays.{frames_size}
-use Rattle.pgw_cell.specs.Ranges.{HasBound, bound_cell, bound_cells, bound_size, range_size, ranges, multiranges, scalar_default, default_of, part_spelling, ranges_over, range_spelling, multirange_spelling}
+use Rattle.pgw_cell.specs.Ranges.{HasBound, bound_cell, bound_cells, bound_size, range_size, ranges, multiranges, scalar_default, ranges_over, range_spelling, multirange_spelling}
 use Rattle.pgw_cell.proofs.Told.{IsToldSpelling, IsWrittenSpelling, told_whole, written_whole, no_spelling_whole, exact_as}
 use Rattle.pgw_cell.proofs.Spellings.{spelling_told, spelling_written}
 use Rattle.pgw_cell.proofs.NullCells.{cell_exact, cell_has}

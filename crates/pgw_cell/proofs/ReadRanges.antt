@@ -1,20 +1,18 @@
 -- Reading the bounds of a range, and the ranges of a multirange.
-use Rattle.std.proofs.Common.{◌≡◌, ◌<◌, ◌||◌, ℕ, Bool, true, false, List, [], ◌∷◌, ◌++◌, length, map, Option, None, Some, Result, Ok, Err, IsTrue, refl, sym, ap, ◌∙◌, arith, subst}
+use Rattle.std.proofs.Common.{◌≡◌, ◌<◌, ◌||◌, ℕ, Bool, true, false, List, [], ◌∷◌, ◌++◌, length, map, Option, None, Some, Ok, Err, IsTrue, refl, sym, ap, ◌∙◌, arith, subst}
 use Rattle.std.proofs.lemmas.List.{map-append}
 use Rattle.std.specs.declared.ops.Bound.{Bound}
 use Rattle.std.specs.declared.ops.Bound.TheVariants.{Unbounded, Included, Excluded}
 use Rattle.pgw_wire.specs.Cell.{Cell}
-use Rattle.pgw_wire.specs.declared.kind.Break.{Break}
 use Rattle.pgw_meta.specs.Shape.{Shape, scalar, range, multirange}
 use Rattle.pgw_scalar.proofs.Readers.{IsBytes}
 use Rattle.pgw_nested.specs.Array.{Elements}
 use Rattle.pgw_nested.specs.Range.{Bounds}
 use Rattle.pgw_nested.specs.Multirange.{BeginsMultirange}
-use Rattle.pgw_cell.specs.Value.{Value, range as range_value, bound_value, range_of, multirange_of, unbounded, included, excluded}
+use Rattle.pgw_cell.specs.Value.{Value, range as range_value, bound_value, range_of, multirange_of}
 use Rattle.pgw_cell.specs.Spellings.{spelling}
 use Rattle.pgw_cell.specs.Ranges.{HasBound, bound_cell, default_of, part_spelling, ranges_over, range_spelling}
-use Rattle.pgw_cell.specs.Pieces.{HasPiece, canonical_piece, piece_size, read_piece}
-use Rattle.pgw_meta.specs.Known.{Known}
+use Rattle.pgw_cell.specs.Pieces.{read_piece}
 use Rattle.pgw_cell.specs.Data.{value_of, bound_of, value_of_range, has_value, takes_memory, AnswersBy, AnswersBound, AnswersAs}
 use Rattle.pgw_cell.specs.Written.{bytes_of, cell_of_bound, cells_read}
 use Rattle.pgw_cell.specs.declared.piece.Canonical.{Canonical}
@@ -115,5 +113,5 @@ some_takes (v ∷ vs) some = refl
 pub multirange_refused : (t : Shape) (p : List ℕ) (e : Elements) (x : List Value × List ℕ) (fault : CellFault) → BeginsMultirange p e → cells_read (range t) e ≡ Ok x → (fault ≡ NoMemory) × (0 < e.left) → AnswersAs (Err fault) (read_piece (multirange t) p)
 multirange_refused t p e x fault begins read h =
     let wanted : AnswersAs (Err NoMemory) (read_piece (multirange t) p) =
-        (multirange_of x.0, multirange_of_read t p e x.0 x.1 begins read, some_takes x.0 (omega (arith, h.1, elements_many (λ (c : Cell). read_value (range t) c) e x read))) in
+    (multirange_of x.0, multirange_of_read t p e x.0 x.1 begins read, some_takes x.0 (omega (arith, h.1, elements_many (λ (c : Cell). read_value (range t) c) e x read))) in
     subst (λ (f : CellFault). AnswersAs (Err f) (read_piece (multirange t) p)) (sym h.0) wanted

@@ -1,24 +1,23 @@
 -- What is written of the bounds of a range, and of the ranges of a multirange.
-use Rattle.std.proofs.Common.{◌≡◌, ◌≤◌, ◌<◌, ◌+◌, ℕ, false, List, [], ◌∷◌, ◌++◌, length, get_or, drop, map, min, Option, None, Some, refl, sym, ap, ◌∙◌, arith, subst, append_assoc, length-append}
+use Rattle.std.proofs.Common.{◌≡◌, ◌≤◌, ◌<◌, ◌+◌, ℕ, false, List, [], ◌∷◌, ◌++◌, length, get_or, drop, map, Option, None, Some, refl, sym, ap, ◌∙◌, arith, subst, append_assoc, length-append}
 use Rattle.std.specs.List.{AllByRecursion}
 use Rattle.std.specs.Int.{to_be_bytes, w32}
-use Rattle.std.specs.Range.Bound.{bound_map}
 use Rattle.std.specs.declared.ops.Bound.{Bound}
 use Rattle.std.specs.declared.ops.Bound.TheVariants.{Unbounded, Included, Excluded}
 use Rattle.std.proofs.lemmas.List.{drop_more, drop_all}
-use Rattle.pgw_wire.specs.Cell.{Cell, frame}
+use Rattle.pgw_wire.specs.Cell.{Cell}
 use Rattle.pgw_meta.specs.Known.{Known}
 use Rattle.pgw_meta.specs.Shape.{Scalar, Shape, scalar, range, multirange}
 use Rattle.pgw_nested.specs.Frames.{frames}
-use Rattle.pgw_nested.specs.Range.{Bounds, lower_flags, upper_flags, bound_bytes, range_bytes}
+use Rattle.pgw_nested.specs.Range.{Bounds, lower_flags, upper_flags, range_bytes}
 use Rattle.pgw_nested.specs.Multirange.{multirange_bytes}
 use Rattle.pgw_cell.specs.Value.{Value, BoundValue, range as range_value, bound_in, multirange_of, ranges_in}
 use Rattle.pgw_cell.specs.Spellings.{spelling}
 use Rattle.pgw_cell.specs.Arrays.{frames_size}
-use Rattle.pgw_cell.specs.Ranges.{HasBound, bound_cell, bound_cells, bound_size, range_size, scalar_default, ranges_over, range_spelling}
+use Rattle.pgw_cell.specs.Ranges.{HasBound, bound_cell, bound_cells, bound_size, scalar_default, ranges_over, range_spelling}
 use Rattle.pgw_cell.specs.Pieces.{HasPiece, canonical_piece, piece_size}
 use Rattle.pgw_cell.specs.Cells.{HasType, canonical_cell, canonical_size}
-use Rattle.pgw_cell.specs.Data.{value_of, value_of_range, range_values, ranges_of}
+use Rattle.pgw_cell.specs.Data.{value_of, value_of_range, ranges_of}
 use Rattle.pgw_cell.specs.Written.{kind_of_bound, written_bound}
 use Rattle.pgw_cell.specs.declared.datum.Datum.{Datum, Ranges as ranges_datum}
 use Rattle.pgw_cell.specs.declared.datum.RangeDatum.{RangeDatum}
@@ -85,9 +84,9 @@ bounds_behind known t lower upper kl ku begun flags one two r l u f a b =
     let y = written_bound known t upper in
     let n = lower_flags kl + upper_flags ku in
     let same : lower_flags kl + upper_flags ku ≡ lower_flags (bound_cell (canonical_piece known t) (bound_in lower)) + upper_flags (bound_cell (canonical_piece known t) (bound_in upper)) =
-        ap (λ k. lower_flags k + upper_flags ku) l ∙ ap (λ k. lower_flags (kind_of_bound (bound_in lower)) + upper_flags k) u
-        ∙ ap (λ k. k + upper_flags (kind_of_bound (bound_in upper))) (lower_same (canonical_piece known t) (bound_in lower))
-        ∙ ap (λ k. lower_flags (bound_cell (canonical_piece known t) (bound_in lower)) + k) (upper_same (canonical_piece known t) (bound_in upper)) in
+    ap (λ k. lower_flags k + upper_flags ku) l ∙ ap (λ k. lower_flags (kind_of_bound (bound_in lower)) + upper_flags k) u
+    ∙ ap (λ k. k + upper_flags (kind_of_bound (bound_in upper))) (lower_same (canonical_piece known t) (bound_in lower))
+    ∙ ap (λ k. lower_flags (bound_cell (canonical_piece known t) (bound_in lower)) + k) (upper_same (canonical_piece known t) (bound_in upper)) in
     b ∙ ap (λ k. k ++ y) (a ∙ ap (λ k. k ++ x) f) ∙ append_assoc (begun ++ (n ∷ [])) x y ∙ append_assoc begun (n ∷ []) (x ++ y)
     ∙ ap (λ k. begun ++ (k ∷ (x ++ y))) same ∙ ap (λ k. begun ++ k) (sym r.piece)
 

@@ -17,7 +17,9 @@ pub(crate) const NOT_A_NUMBER: [u8; 8] = [0, 0, 0, 0, 0xc0, 0, 0, 0];
 
 /// The same, and those of a truth, where bytes are lent.
 const NAN: &[u8] = &NOT_A_NUMBER;
+
 const TRUE: &[u8] = &[1];
+
 const FALSE: &[u8] = &[0];
 
 /// What the value that a piece spells is written as.

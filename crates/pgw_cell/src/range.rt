@@ -121,10 +121,7 @@ fn written_bound<'a>(part: &PgType, piece: BoundPiece<'a>) -> Result<Bound<Canon
 
 /// What the range is written as that the piece spells, or the kind in which the piece breaks. An empty one is written as
 /// two bounds that exclude the default value. It takes no memory.
-pub(crate) fn written_range<'a>(
-    part: &PgType,
-    piece: &'a [u8],
-) -> Result<CanonicalRange<'a>, Break>
+pub(crate) fn written_range<'a>(part: &PgType, piece: &'a [u8]) -> Result<CanonicalRange<'a>, Break>
     ensures { range_answer result ≡ range_read (shape part.now) piece.now }
 {
     let Some(default) = default_of(part) else {

@@ -485,12 +485,7 @@ fn write_ranges(
 
 /// Appends the fields of the ranges of a multirange into the room that was made for them.
 #[cycle(writing)]
-fn write_each_range(
-    part: &PgType,
-    ranges: &[RangeDatum],
-    found: &FoundOids,
-    out: &mut ByteBuffer,
-)
+fn write_each_range(part: &PgType, ranges: &[RangeDatum], found: &FoundOids, out: &mut ByteBuffer)
     requires has { AllByRecursion (HasType (range (shape part.now))) (map value_of_range ranges.now) }
     requires room { length (frames (map (canonical_cell (known_of found.now) (range (shape part.now)))
         (map value_of_range ranges.now))) ≤ out.old.spare }

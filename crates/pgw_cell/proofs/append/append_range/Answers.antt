@@ -1,4 +1,4 @@
-use Rattle.std.proofs.Common.{◌∙◌, ◌++◌, ◌≡◌, ◌+◌, length, Some, Err, Ok, refl, sym, ap, arith}
+use Rattle.std.proofs.Common.{◌∙◌, ◌++◌, ◌≡◌, length, Err, refl, sym, ap, arith}
 use Rattle.std.specs.Int.{to_be_bytes, w32}
 use Rattle.pgw_meta.specs.Shape.{range}
 use Rattle.pgw_meta.specs.Types.{shape}

@@ -1,12 +1,11 @@
 use Rattle.std.proofs.Common.{◌∙◌, ◌++◌, length, sym, ap, arith}
-use Rattle.std.specs.Int.{to_be_bytes, w32}
 use Rattle.pgw_meta.specs.Shape.{range, multirange}
 use Rattle.pgw_meta.specs.Types.{shape}
 use Rattle.pgw_scalar.proofs.Readers.{never_both}
 use Rattle.pgw_nested.proofs.Exact.{ok_is}
 use Rattle.pgw_wire.specs.declared.kind.Break.{Break}
 use Rattle.pgw_wire.specs.Cell.{frame}
-use Rattle.std.proofs.Common.{List, ℕ, Some, ◌+◌, ◌≡◌, subst}
+use Rattle.std.proofs.Common.{Some, ◌+◌, ◌≡◌}
 use Rattle.pgw_nested.specs.Multirange.{multirange_bytes}
 use Rattle.pgw_nested.specs.RangePieces.{ranges_of}
 use Rattle.pgw_cell.specs.Ranges.{multirange_spelling}

@@ -1,4 +1,4 @@
-use Rattle.std.proofs.Common.{◌∙◌, false, Some, refl, sym, ap, arith}
+use Rattle.std.proofs.Common.{false, Some, refl, arith}
 use Rattle.pgw_wire.specs.Cell.{Cell}
 use Rattle.pgw_meta.specs.Shape.{range}
 use Rattle.pgw_meta.specs.Types.{shape}

@@ -1,4 +1,4 @@
-use Rattle.std.proofs.Common.{◌∙◌, ◌+◌, Ok, Err, Some, refl, sym, ap, arith}
+use Rattle.std.proofs.Common.{◌∙◌, ◌+◌, Err, Some, refl, sym, ap, arith}
 use Rattle.pgw_wire.specs.Cell.{Cell}
 use Rattle.pgw_wire.proofs.Taking.{exit}
 use Rattle.pgw_meta.specs.Shape.{range}

@@ -1,5 +1,4 @@
 use Rattle.pgw_cell.proofs.Counted.{no_ranges}
-use Rattle.pgw_meta.specs.Types.{shape}
 use Rattle.pgw_cell.proofs.range.default_of.Goals as goal
 
 pub returns-in_default : goal.returns-in_default

@@ -1,4 +1,4 @@
-use Rattle.std.proofs.Common.{◌∙◌, false, Ok, Err, refl, sym, ap}
+use Rattle.std.proofs.Common.{◌∙◌, false, Ok, Err, sym, ap}
 use Rattle.pgw_wire.proofs.Taking.{exit}
 use Rattle.pgw_meta.specs.Types.{shape}
 use Rattle.pgw_nested.specs.RangePieces.{bound_of, coming_of}
@@ -7,7 +7,7 @@ use Rattle.pgw_nested.proofs.Bounds.{lower_given}
 use Rattle.pgw_cell.specs.Nulls.{read_by}
 use Rattle.pgw_cell.specs.Ranges.{bound_cell, part_spelling}
 use Rattle.pgw_cell.specs.Written.{cell_of_bound, bound_answer, range_answer}
-use Rattle.pgw_cell.proofs.RangeBounds.{answer_ok, answer_err, default_is, upper_comes, upper_given, upper_not_missing, no_flags_answered, none_answered, lower_not_answered, lower_broken, upper_not_answered, upper_broken, both_read}
+use Rattle.pgw_cell.proofs.RangeBounds.{answer_ok, answer_err, default_is, upper_comes, upper_given, no_flags_answered, none_answered, lower_not_answered, lower_broken, upper_not_answered, upper_broken, both_read}
 use Rattle.pgw_cell.proofs.range.written_range.Goals as goal
 
 pub returns-in-Err : goal.returns-in-Err

@@ -17,7 +17,6 @@ use Rattle.pgw_cell.proofs.Writing.{list_has, list_piece, items_more, item_bytes
 use Rattle.pgw_nested.specs.Multirange.{multirange_bytes}
 use Rattle.pgw_nested.specs.RangeWritten.{bound_of_kind}
 use Rattle.pgw_cell.specs.Data.{value_of_range, bound_of}
-use Rattle.pgw_cell.specs.Written.{written_bound}
 use Rattle.pgw_cell.proofs.ArrayPieces.{frame_length}
 use Rattle.pgw_cell.proofs.WriteRanges.{range_is, bounds_length, bounds_behind, list_has as ranges_has, list_piece as ranges_piece, ranges_more, no_ranges, multirange_sizes, multirange_behind}
 use Rattle.pgw_cell.proofs.write.+writing.Goals as goal
