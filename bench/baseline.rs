@@ -11,7 +11,8 @@
 //! are respelled at their place. Only bytes that are dropped interrupt a run, which are those behind
 //! the value of a bool, a char, an oid, an interval, a numeric or an array, and the fields behind the
 //! last column; and an empty array that has fewer bytes than its canonical form. Elements that lose
-//! bytes are first moved together.
+//! bytes are first moved together. A range, a multirange or an array of them that is not canonical is
+//! written anew beside the buffer, since it may become longer, and stands in the place of the old one.
 
 use std::collections::TryReserveError;
 use std::env;
@@ -43,6 +44,14 @@ const HEAD: usize = 20;
 const HEAD_LEAST: usize = 12;
 /// What the head of an empty array has behind its oid: no elements, and the lower bound 1.
 const NO_ELEMENTS: [u8; 8] = [0, 0, 0, 0, 0, 0, 0, 1];
+/// The first byte of a range: whether the range is empty; whether the lower and the upper bound are
+/// in it; whether there is no lower and no upper bound; and bits that say nothing.
+const EMPTY: u8 = 0x01;
+const LOWER_INCLUSIVE: u8 = 0x02;
+const UPPER_INCLUSIVE: u8 = 0x04;
+const LOWER_INFINITE: u8 = 0x08;
+const UPPER_INFINITE: u8 = 0x10;
+const IGNORED: u8 = 0xe0;
 /// The longest field that the format can state.
 const FIELD_MAX: u64 = 2147483647;
 /// How many columns the count of a row can state.
@@ -118,8 +127,20 @@ enum Type {
     Numeric,
     Text,
     Bytea,
+    /// A byte of flags, and the bounds that it tells.
+    Range(Bounds),
+    /// A count, and as many ranges, each behind its length.
+    Multirange(Bounds),
     /// An array of elements of the column's element type.
     Array,
+}
+
+/// What the bounds of a range are.
+#[derive(Clone, Copy)]
+enum Bounds {
+    /// Numbers of so many bytes.
+    Exact(usize),
+    Numeric,
 }
 
 /// What the elements of an array are.
@@ -134,6 +155,8 @@ struct Element {
 struct Column {
     of: Type,
     nullable: bool,
+    /// Whether the values are ranges or multiranges, or arrays of them.
+    has_ranges: bool,
     /// The type of the elements. Where the column has no arrays it is the column's own type.
     element: Element,
     /// The length of a field that is canonical whatever its bytes are. No field has the length
@@ -154,6 +177,7 @@ impl Column {
         Some(Column {
             of: if is_array { Type::Array } else { of },
             nullable,
+            has_ranges: matches!(of, Type::Range(_) | Type::Multirange(_)),
             element: Element {
                 of,
                 nullable: element_nullable,
@@ -173,9 +197,25 @@ impl Column {
         }
     }
 
-    /// Whether a canonical field may have fewer bytes than one that is read.
+    /// Whether a canonical field may have another length than one that is read.
     fn shortens(&self) -> bool {
-        self.of.shortens() || matches!(self.of, Type::Array)
+        self.of.shortens() || self.has_ranges || matches!(self.of, Type::Array)
+    }
+
+    /// What a field of ranges, multiranges or arrays of them becomes.
+    fn measure(&self, bytes: &[u8]) -> Result<Measure, &'static str> {
+        match self.of {
+            Type::Array => self.element.measure(bytes),
+            of => of.measure(bytes),
+        }
+    }
+
+    /// Writes the canonical form of such a field, which spells a value.
+    fn write(&self, bytes: &[u8], out: &mut Vec<u8>) {
+        match self.of {
+            Type::Array => self.element.write(bytes, out),
+            of => of.write(bytes, out),
+        }
     }
 }
 
@@ -212,6 +252,18 @@ impl Type {
             "timestamptz" => (Type::Exact(8), 1184),
             "interval" => (Type::Leading(16), 1186),
             "numeric" => (Type::Numeric, 1700),
+            "int4range" => (Type::Range(Bounds::Exact(4)), 3904),
+            "int8range" => (Type::Range(Bounds::Exact(8)), 3926),
+            "numrange" => (Type::Range(Bounds::Numeric), 3906),
+            "daterange" => (Type::Range(Bounds::Exact(4)), 3912),
+            "tsrange" => (Type::Range(Bounds::Exact(8)), 3908),
+            "tstzrange" => (Type::Range(Bounds::Exact(8)), 3910),
+            "int4multirange" => (Type::Multirange(Bounds::Exact(4)), 4451),
+            "int8multirange" => (Type::Multirange(Bounds::Exact(8)), 4536),
+            "nummultirange" => (Type::Multirange(Bounds::Numeric), 4532),
+            "datemultirange" => (Type::Multirange(Bounds::Exact(4)), 4535),
+            "tsmultirange" => (Type::Multirange(Bounds::Exact(8)), 4533),
+            "tstzmultirange" => (Type::Multirange(Bounds::Exact(8)), 4534),
             _ => return None,
         })
     }
@@ -223,7 +275,7 @@ impl Type {
     }
 
     /// How many of these bytes the canonical field has, where they spell a value. Whether a text is
-    /// one is not looked at.
+    /// one is not looked at, nor what ranges and arrays hold.
     #[inline(always)]
     fn kept(self, bytes: &[u8]) -> Result<usize, &'static str> {
         match self {
@@ -234,7 +286,182 @@ impl Type {
             Type::Bool => Ok(1),
             Type::Network(kind) => network_kept(kind, bytes),
             Type::Numeric => numeric_kept(bytes),
-            Type::Text | Type::Bytea | Type::Array => Ok(bytes.len()),
+            _ => Ok(bytes.len()),
+        }
+    }
+
+    /// What a range or a multirange becomes.
+    #[inline(always)]
+    fn measure(self, bytes: &[u8]) -> Result<Measure, &'static str> {
+        match self {
+            Type::Range(bounds) => bounds.measure_range(bytes),
+            Type::Multirange(bounds) => bounds.measure_multirange(bytes),
+            _ => unreachable!("only ranges and multiranges are measured"),
+        }
+    }
+
+    /// Writes the canonical form of a range or a multirange.
+    fn write(self, bytes: &[u8], out: &mut Vec<u8>) {
+        match self {
+            Type::Range(bounds) => bounds.write_range(bytes, out),
+            Type::Multirange(bounds) => bounds.write_multirange(bytes, out),
+            _ => unreachable!("only ranges and multiranges are written anew"),
+        }
+    }
+}
+
+/// What bytes become that spell a value.
+struct Measure {
+    /// How many bytes the canonical form has.
+    size: usize,
+    /// Whether it is the same bytes.
+    same: bool,
+}
+
+impl Measure {
+    /// Adds a part behind its length.
+    #[inline(always)]
+    fn add(&mut self, part: Measure) {
+        self.size += 4 + part.size;
+        self.same &= part.same;
+    }
+}
+
+/// The bytes behind the length that stands in front, and what stands behind them; where they are
+/// there, and the length is not negative.
+#[inline(always)]
+fn split_frame(bytes: &[u8]) -> Option<(&[u8], &[u8])> {
+    let (piece, behind) = field_at(bytes, 0)?;
+    Some((piece?, &bytes[behind..]))
+}
+
+/// Writes what is written by a call behind its length.
+fn write_frame(out: &mut Vec<u8>, write: impl FnOnce(&mut Vec<u8>)) {
+    let start = out.len() + 4;
+    out.extend_from_slice(&[0; 4]);
+    write(out);
+    let length = (out.len() - start) as u32;
+    out[start - 4..start].copy_from_slice(&length.to_be_bytes());
+}
+
+impl Bounds {
+    /// What both bounds of an empty range are written as: 0, and of numerics what is not a number.
+    fn default(self) -> &'static [u8] {
+        match self {
+            Bounds::Exact(size) => &[0; 8][..size],
+            Bounds::Numeric => &NOT_A_NUMBER,
+        }
+    }
+
+    #[inline(always)]
+    fn measure_bound(self, bytes: &[u8]) -> Result<Measure, &'static str> {
+        let (size, same) = match self {
+            Bounds::Exact(size) if bytes.len() != size => return Err("size"),
+            Bounds::Exact(size) => (size, true),
+            Bounds::Numeric => {
+                let size = numeric_kept(bytes)?;
+                let is_number = bytes[4] != NOT_A_NUMBER[4];
+                let same = size == bytes.len() && (is_number || *bytes == NOT_A_NUMBER);
+                (size, same)
+            }
+        };
+        Ok(Measure { size, same })
+    }
+
+    fn write_bound(self, bytes: &[u8], out: &mut Vec<u8>) {
+        let start = out.len();
+        let size = self.measure_bound(bytes).map_or(0, |bound| bound.size);
+        out.extend_from_slice(&bytes[..size]);
+        if matches!(self, Bounds::Numeric) {
+            respell_numeric(&mut out[start..]);
+        }
+    }
+
+    /// The lower bound has the length that it states, and the upper one has all the rest.
+    #[inline(always)]
+    fn measure_range(self, bytes: &[u8]) -> Result<Measure, &'static str> {
+        let (&flags, mut rest) = bytes.split_first().ok_or("size")?;
+        if flags & EMPTY != 0 {
+            let size = 1 + 2 * (4 + self.default().len());
+            return Ok(Measure { size, same: false });
+        }
+        let mut seen = Measure {
+            size: 1,
+            same: flags & IGNORED == 0,
+        };
+        if flags & LOWER_INFINITE == 0 {
+            let (lower, behind) = split_frame(rest).ok_or("size")?;
+            seen.add(self.measure_bound(lower)?);
+            rest = behind;
+        } else {
+            seen.same &= flags & LOWER_INCLUSIVE == 0;
+        }
+        if flags & UPPER_INFINITE == 0 {
+            let (stated, upper) = rest.split_first_chunk().ok_or("size")?;
+            seen.add(self.measure_bound(upper)?);
+            seen.same &= u32::from_be_bytes(*stated) as usize == upper.len();
+        } else {
+            seen.same &= flags & UPPER_INCLUSIVE == 0 && rest.is_empty();
+        }
+        Ok(seen)
+    }
+
+    fn write_range(self, bytes: &[u8], out: &mut Vec<u8>) {
+        let Some((&flags, mut rest)) = bytes.split_first() else {
+            return;
+        };
+        if flags & EMPTY != 0 {
+            out.push(0);
+            for _ in 0..2 {
+                write_frame(out, |out| out.extend_from_slice(self.default()));
+            }
+            return;
+        }
+        let told = |infinite, inclusive| match flags & infinite {
+            0 => flags & inclusive,
+            _ => infinite,
+        };
+        let lower = told(LOWER_INFINITE, LOWER_INCLUSIVE);
+        out.push(lower | told(UPPER_INFINITE, UPPER_INCLUSIVE));
+        if flags & LOWER_INFINITE == 0 {
+            let Some((lower, behind)) = split_frame(rest) else {
+                return;
+            };
+            write_frame(out, |out| self.write_bound(lower, out));
+            rest = behind;
+        }
+        if flags & UPPER_INFINITE == 0 {
+            write_frame(out, |out| self.write_bound(&rest[4..], out));
+        }
+    }
+
+    #[inline(always)]
+    fn measure_multirange(self, bytes: &[u8]) -> Result<Measure, &'static str> {
+        let (count, mut rest) = bytes.split_first_chunk().ok_or("size")?;
+        let mut seen = Measure {
+            size: 4,
+            same: true,
+        };
+        for _ in 0..u32::from_be_bytes(*count) {
+            let (range, behind) = split_frame(rest).ok_or("size")?;
+            seen.add(self.measure_range(range)?);
+            rest = behind;
+        }
+        seen.same &= rest.is_empty();
+        Ok(seen)
+    }
+
+    fn write_multirange(self, bytes: &[u8], out: &mut Vec<u8>) {
+        let Some((count, mut rest)) = bytes.split_first_chunk() else {
+            return;
+        };
+        out.extend_from_slice(count);
+        for _ in 0..u32::from_be_bytes(*count) {
+            let Some((range, behind)) = split_frame(rest) else {
+                return;
+            };
+            write_frame(out, |out| self.write_range(range, out));
+            rest = behind;
         }
     }
 }
@@ -321,6 +548,25 @@ fn walk(
     Ok(seen)
 }
 
+/// Whether an array's flags tell of nulls, and how many elements it has.
+#[inline(always)]
+fn array_front(bytes: &[u8]) -> Result<(bool, usize), &'static str> {
+    let dimensions = match bytes.first_chunk() {
+        Some(dimensions) if bytes.len() >= HEAD_LEAST => u32::from_be_bytes(*dimensions),
+        _ => return Err("size"),
+    };
+    let told = bytes[4..8] != [0; 4];
+    match dimensions {
+        0 => Ok((told, 0)),
+        _ if bytes.len() < HEAD => Err("size"),
+        1 => {
+            let stated = bytes_at(bytes, 12).map_or(0, i32::from_be_bytes);
+            Ok((told, usize::try_from(stated).unwrap_or(0)))
+        }
+        _ => Err("dimensions"),
+    }
+}
+
 /// Whether the frames, of `N` bytes each, all state that length.
 #[inline(always)]
 fn all_state<const N: usize>(frames: &[u8], length: u32) -> bool {
@@ -386,35 +632,76 @@ impl Element {
         }
     }
 
+    /// What an array of ranges or multiranges becomes.
+    fn measure(&self, bytes: &[u8]) -> Result<Measure, &'static str> {
+        let (told, count) = array_front(bytes)?;
+        let mut seen = Measure {
+            size: HEAD,
+            same: true,
+        };
+        let (mut place, mut nulls) = (HEAD, false);
+        for _ in 0..count {
+            let length = i32::from_be_bytes(bytes_at(bytes, place).ok_or("size")?);
+            let (element, behind) = field_at(bytes, place).ok_or("size")?;
+            match element {
+                Some(element) => seen.add(self.of.measure(element)?),
+                None if length != -1 || !told => return Err("size"),
+                None if !self.nullable => return Err("null"),
+                None => {
+                    nulls = true;
+                    seen.size += 4;
+                }
+            }
+            place = behind;
+        }
+        seen.same &= bytes.len() == place && bytes[..HEAD] == self.head(count, nulls);
+        Ok(seen)
+    }
+
+    /// Writes the canonical form of such an array.
+    fn write(&self, bytes: &[u8], out: &mut Vec<u8>) {
+        let count = array_front(bytes).map_or(0, |(_, count)| count);
+        let start = out.len();
+        out.extend_from_slice(&self.head(count, false));
+        let mut place = HEAD;
+        for _ in 0..count {
+            let Some((element, behind)) = field_at(bytes, place) else {
+                return;
+            };
+            match element {
+                Some(element) => write_frame(out, |out| self.of.write(element, out)),
+                None => {
+                    out[start + 7] = 1;
+                    out.extend_from_slice(&NULL);
+                }
+            }
+            place = behind;
+        }
+    }
+
+    /// What stands in front of the elements of a canonical array.
+    fn head(&self, count: usize, nulls: bool) -> [u8; HEAD] {
+        let mut head = [0; HEAD];
+        head[..8].copy_from_slice(&[0, 0, 0, 1, 0, 0, 0, nulls.into()]);
+        head[8..HEAD_LEAST].copy_from_slice(&self.oid);
+        head[12..16].copy_from_slice(&(count as u32).to_be_bytes());
+        head[16..].copy_from_slice(&[0, 0, 0, 1]);
+        head
+    }
+
     /// Checks an array, and answers how many bytes its canonical form has. They are then the first of
     /// these bytes. Where these are fewer the array is empty, and only its flags and its oid are made
     /// canonical. What is changed spells the same array, since the row may be looked at once more.
     #[inline(never)]
     fn check(&self, bytes: &mut [u8]) -> Result<usize, &'static str> {
-        let dimensions = match bytes.first_chunk() {
-            Some(dimensions) if bytes.len() >= HEAD_LEAST => u32::from_be_bytes(*dimensions),
-            _ => return Err("size"),
-        };
+        let (told, count) = array_front(bytes)?;
         let Some((head, frames)) = bytes.split_first_chunk_mut::<HEAD>() else {
-            if dimensions != 0 {
-                return Err("size");
-            }
             bytes[4..8].fill(0);
             bytes[8..HEAD_LEAST].copy_from_slice(&self.oid);
             return Ok(HEAD);
         };
-        let told = head[4..8] != [0; 4];
-        let stated = bytes_at(head, 12).map_or(0, i32::from_be_bytes);
-        let count = match dimensions {
-            0 => 0,
-            1 => usize::try_from(stated).unwrap_or(0),
-            _ => return Err("dimensions"),
-        };
         let seen = self.pass(frames, count, told)?;
-        head[..8].copy_from_slice(&[0, 0, 0, 1, 0, 0, 0, seen.nulls.into()]);
-        head[8..12].copy_from_slice(&self.oid);
-        head[12..16].copy_from_slice(&(count as u32).to_be_bytes());
-        head[16..].copy_from_slice(&[0, 0, 0, 1]);
+        *head = self.head(count, seen.nulls);
         if seen.dropped > 0 {
             self.move_together(frames, count);
         }
@@ -586,15 +873,25 @@ enum Stop {
     Bad(usize, &'static str),
 }
 
-/// A field that has another length than its canonical form.
+/// A field that has another length than its canonical form, or is to be written anew.
 struct Surplus {
     /// Where its length stands.
     place: usize,
     /// How many bytes the canonical form has. They stand behind the length, but for an empty array
-    /// that has fewer.
+    /// that has fewer, and for a field that is to be written anew.
     kept: usize,
     /// Where it ends.
     behind: usize,
+    /// The column, where the field is to be written anew.
+    anew: Option<usize>,
+}
+
+/// What is dropped of a run.
+struct Gap {
+    from: usize,
+    to: usize,
+    /// How many bytes are written in its place.
+    made: usize,
 }
 
 impl Plan {
@@ -614,7 +911,8 @@ impl Plan {
     /// Checks the field of each column, of which the first is at a place. Makes each null, the byte
     /// of each bool, each numeric that is not a number and the head of each array canonical, and
     /// answers where the last field ends. Of the fields that have another length than their
-    /// canonical form a list is made, since only a row that is taken may be changed in it.
+    /// canonical form, or are to be written anew, a list is made, since only a row that is taken may
+    /// be changed in it.
     /// `SHORTENS` tells whether a column may have such fields.
     #[inline(always)]
     fn check_fields<const SHORTENS: bool>(
@@ -636,6 +934,20 @@ impl Plan {
                 Some(field) if matches!(of.of, Type::Text) => {
                     self.check_text(field).map_err(bad)?
                 }
+                Some(field) if SHORTENS && of.has_ranges => {
+                    let Measure { size, same } = of.measure(field).map_err(bad)?;
+                    if size > self.field_max {
+                        return Err(bad("too long"));
+                    }
+                    if !same {
+                        surplus.push(Surplus {
+                            place,
+                            kept: size,
+                            behind,
+                            anew: Some(column),
+                        });
+                    }
+                }
                 Some(field) => {
                     let length = field.len();
                     let kept = match of.of {
@@ -651,6 +963,7 @@ impl Plan {
                             place,
                             kept,
                             behind,
+                            anew: None,
                         });
                     }
                     match of.of {
@@ -735,11 +1048,13 @@ struct Copier {
     row: usize,
     run: usize,
     rows: u64,
-    /// The fields of the row that have another length than their canonical form.
+    /// The fields of the row that have another length than their canonical form, or are to be written
+    /// anew.
     surplus: Vec<Surplus>,
-    /// What is dropped of the run: from where, and to where. Where that is nothing, `NO_ELEMENTS` are
-    /// missing there.
-    gaps: Vec<(usize, usize)>,
+    /// What is dropped of the run.
+    gaps: Vec<Gap>,
+    /// What is written in the places of the gaps, of one behind the other.
+    made: Vec<u8>,
 }
 
 impl Copier {
@@ -751,7 +1066,7 @@ impl Copier {
         let mut surplus = Vec::new();
         surplus.try_reserve_exact(shortened)?;
         let mut gaps = Vec::new();
-        gaps.try_reserve_exact(GAPS + 2 * shortened)?;
+        gaps.try_reserve_exact(GAPS + shortened)?;
         Ok(Copier {
             layout: plan.layout()?,
             plan,
@@ -764,6 +1079,7 @@ impl Copier {
             rows: 0,
             surplus,
             gaps,
+            made: Vec::new(),
         })
     }
 
@@ -781,14 +1097,18 @@ impl Copier {
     /// Where that fails nothing of the run is left.
     fn hand_on_gaps(&mut self) -> Result<()> {
         let mut run = mem::replace(&mut self.run, self.row);
-        for (from, to) in self.gaps.drain(..) {
+        let mut written = 0;
+        for Gap { from, to, made } in self.gaps.drain(..) {
             let mut handed = self.output.write_all(&self.buffer[run..from]);
-            if from == to {
-                handed = handed.and_then(|()| self.output.write_all(&NO_ELEMENTS));
+            if made > 0 {
+                let made = &self.made[written..written + made];
+                handed = handed.and_then(|()| self.output.write_all(made));
             }
             handed.map_err(|_| Fault::Write)?;
+            written += made;
             run = to;
         }
+        self.made.clear();
         self.run = run;
         Ok(())
     }
@@ -881,24 +1201,34 @@ impl Copier {
     /// Makes the lengths of the row's fields canonical, and a gap of what they do not keep. The gaps
     /// are left out once the run is handed on, since bytes that were just written are slow to copy.
     #[inline(always)]
-    fn shorten_row(&mut self) {
+    fn shorten_row(&mut self) -> Result<()> {
         for field in &self.surplus {
             let start = field.place + 4;
-            let length = (field.kept as u32).to_be_bytes();
-            self.buffer[field.place..start].copy_from_slice(&length);
-            let from = start + field.kept;
-            if from < field.behind {
-                self.gaps.push((from, field.behind));
+            if let Some(column) = field.anew {
+                self.made.try_reserve(4 + field.kept)?;
+                let (of, out) = (&self.plan.columns[column], &mut self.made);
+                write_frame(out, |out| of.write(&self.buffer[start..field.behind], out));
+                self.gaps.push(Gap {
+                    from: field.place,
+                    to: field.behind,
+                    made: 4 + field.kept,
+                });
                 continue;
             }
-            // The number of dimensions, behind which the flags and the oid are canonical.
-            let from = start + HEAD_LEAST;
-            self.buffer[start..start + 4].copy_from_slice(&[0, 0, 0, 1]);
-            self.gaps.push((from, from));
-            if from < field.behind {
-                self.gaps.push((from, field.behind));
+            let length = (field.kept as u32).to_be_bytes();
+            self.buffer[field.place..start].copy_from_slice(&length);
+            let (mut from, to, mut made) = (start + field.kept, field.behind, 0);
+            if from >= to {
+                // The number of dimensions, behind which the flags and the oid are canonical.
+                self.buffer[start..start + 4].copy_from_slice(&[0, 0, 0, 1]);
+                from = start + HEAD_LEAST;
+                made = NO_ELEMENTS.len();
+                self.made.try_reserve(made)?;
+                self.made.extend_from_slice(&NO_ELEMENTS);
             }
+            self.gaps.push(Gap { from, to, made });
         }
+        Ok(())
     }
 
     /// Takes whole rows with a value for each column. They are canonical once their nulls and bools
@@ -927,8 +1257,8 @@ impl Copier {
                 behind = end;
             }
             if SHORTENS {
-                self.shorten_row();
-                if more > 0 || self.gaps.len() >= GAPS {
+                self.shorten_row()?;
+                if more > 0 || self.gaps.len() >= GAPS || self.made.len() >= KEPT {
                     self.hand_on_gaps()?;
                 }
             }

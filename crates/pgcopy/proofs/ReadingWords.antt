@@ -14,7 +14,7 @@ use Rattle.pgw_meta.specs.declared.found_oids.Found.{Found}
 use Rattle.pgcopy.specs.OidWords.{entry_key}
 use Rattle.pgcopy.specs.declared.words.WordFault.TheVariants.{NotYet}
 use Rattle.pgcopy.specs.declared.words.WordsRead.{WordsRead}
-use Rattle.pgcopy.specs.Words.{scalar_of, or_null, array_or_scalar, type_of, in_front, behind, is_option, entry_of, number_of, digits_in, number_fault, oid_fault, option_fault, word_fault}
+use Rattle.pgcopy.specs.Words.{single_of, or_null, array_or_single, type_of, in_front, behind, is_option, entry_of, number_of, digits_in, number_fault, oid_fault, option_fault, word_fault}
 use Rattle.pgcopy.specs.WordsRead.{AreRead}
 use Rattle.pgcopy.proofs.Options.{behind_is}
 
@@ -94,17 +94,17 @@ none_marked read front rest none passes = by (in_front (codes "?") rest) refl
     by None is = rw (passes rest, is) (none rest)
     by (Some back) is = rw (passes rest, is, none back) refl
 
-none_part : (front rest : List ℕ) → ((rest : List ℕ) → scalar_of (front ++ rest) ≡ None) → ((rest : List ℕ) → in_front (codes "?") (front ++ rest) ≡ option_map (λ back. front ++ back) (in_front (codes "?") rest))
-    → ((rest : List ℕ) → in_front (codes "[]") (front ++ rest) ≡ option_map (λ back. front ++ back) (in_front (codes "[]") rest)) → array_or_scalar (front ++ rest) ≡ None
+none_part : (front rest : List ℕ) → ((rest : List ℕ) → single_of (front ++ rest) ≡ None) → ((rest : List ℕ) → in_front (codes "?") (front ++ rest) ≡ option_map (λ back. front ++ back) (in_front (codes "?") rest))
+    → ((rest : List ℕ) → in_front (codes "[]") (front ++ rest) ≡ option_map (λ back. front ++ back) (in_front (codes "[]") rest)) → array_or_single (front ++ rest) ≡ None
 none_part front rest none passes over = by (in_front (codes "[]") rest) refl
   where
-    by : (r : Option (List ℕ)) → in_front (codes "[]") rest ≡ r → array_or_scalar (front ++ rest) ≡ None
+    by : (r : Option (List ℕ)) → in_front (codes "[]") rest ≡ r → array_or_single (front ++ rest) ≡ None
     by None is = rw (over rest, is) (none rest)
-    by (Some back) is = rw (over rest, is, none_marked scalar_of front back none passes) refl
+    by (Some back) is = rw (over rest, is, none_marked single_of front back none passes) refl
 
-option_none : (front rest : List ℕ) → ((rest : List ℕ) → scalar_of (front ++ rest) ≡ None) → ((rest : List ℕ) → in_front (codes "?") (front ++ rest) ≡ option_map (λ back. front ++ back) (in_front (codes "?") rest))
+option_none : (front rest : List ℕ) → ((rest : List ℕ) → single_of (front ++ rest) ≡ None) → ((rest : List ℕ) → in_front (codes "?") (front ++ rest) ≡ option_map (λ back. front ++ back) (in_front (codes "?") rest))
     → ((rest : List ℕ) → in_front (codes "[]") (front ++ rest) ≡ option_map (λ back. front ++ back) (in_front (codes "[]") rest)) → type_of (front ++ rest) ≡ None
-option_none front rest none passes over = none_marked array_or_scalar front rest (λ rest. none_part front rest none passes over) passes
+option_none front rest none passes over = none_marked array_or_single front rest (λ rest. none_part front rest none passes over) passes
 
 -- no option is a type
 no_types : (rest : List ℕ) → (type_of (codes "rows=" ++ rest) ≡ None) × (type_of (codes "field=" ++ rest) ≡ None) × (type_of (codes "oid=" ++ rest) ≡ None)

@@ -4,19 +4,19 @@ use Rattle.std.proofs.lemmas.Slice.Eq.{bytes_eq-Decides}
 use Rattle.std.proofs.lemmas.Bool.{false_from_ne_true}
 use Rattle.std.proofs.lemmas.List.{length-append}
 use Rattle.std.proofs.lemmas.Option.{none-some}
-use Rattle.std.specs.Bool.{⊤}
+use Rattle.std.specs.Bool.{⊤, IsTrue, IsFalse}
 use Rattle.std.specs.Option.{MatchOption, is_some, unwrap_or}
 use Rattle.std.specs.Result.{result_err}
 use Rattle.std.specs.Str.{bytes_eq}
 use Rattle.std.specs.Str.Pattern.{FindsTextSuffix, StripsSuffix}
 use Rattle.std.specs.List.{AllByRecursion, filter_map}
-use Rattle.pgw_meta.specs.Shape.{Scalar, bool, char, int2, int4, int8, oid, text, bytea, uuid, money, pg_lsn, macaddr, macaddr8, inet, cidr, date, time, timestamp, timestamptz, interval, numeric, Shape, scalar, nullable, array}
-use Rattle.pgw_meta.specs.Schema.{IsValidColumn, IsValidSchema, schema_fault}
+use Rattle.pgw_meta.specs.Shape.{Scalar, bool, char, int2, int4, int8, oid, text, bytea, uuid, money, pg_lsn, macaddr, macaddr8, inet, cidr, date, time, timestamp, timestamptz, interval, numeric, Shape, scalar, nullable, array, range, multirange}
+use Rattle.pgw_meta.specs.Schema.{is_nullable, is_array, without_null, is_bound, depth_of, IsWellFormed, IsValidColumn, IsValidSchema, schema_fault}
 use Rattle.pgw_meta.specs.declared.schema.SchemaError.{SchemaError}
 use Rattle.pgw_meta.specs.declared.schema.SchemaError.TheVariants.{NoMemory}
 use Rattle.pgw_meta.proofs.Faults.{no_fault_where_valid}
 use Rattle.pgw_cell.specs.Built.{IsBuilt}
-use Rattle.pgcopy.specs.Words.{type_names, look_up, in_front, scalar_of, or_null, array_or_scalar, type_of}
+use Rattle.pgcopy.specs.Words.{type_names, look_up, in_front, single_of, or_null, array_or_single, type_of}
 
 -- a word is what stands in front of its end, and the end
 pub in_front_is : (back word front : List ℕ) → in_front back word ≡ Some front → word ≡ front ++ back
@@ -98,7 +98,7 @@ pub record IsKnown (t : Shape) : Type 0 where
   pub valid : IsValidColumn t
   pub built : IsBuilt t
 
--- A scalar type is known, and so are its arrays, and each of these or null.
+-- A type is known, and so is it or null.
 pub record AreKnown (t : Shape) : Type 0 where
   pub plain : IsKnown t
   pub or_null : IsKnown (nullable t)
@@ -108,24 +108,43 @@ pub record AreParts (t : Shape) : Type 0 where
   pub arrays : AreKnown (array t)
   pub null_arrays : AreKnown (array (nullable t))
 
-scalar_known : (s : Scalar) → AreParts (scalar s)
-scalar_known s = record {
+-- It stands in a type alone, in arrays of it, and in these or null.
+record IsSingle (t : Shape) : Type 0 where
+  pub shallow : depth_of t ≤ 29
+  pub formed : IsWellFormed t
+  pub has_values : IsBuilt t
+  pub no_null : IsFalse (is_nullable t)
+  pub no_array : IsFalse (is_array t)
+  pub no_array_or_null : IsFalse (is_array (without_null t))
+
+parts_known : (t : Shape) → IsSingle t → AreParts t
+parts_known t is = record {
   one = record {
-    plain = record { valid = record { shallow = lit≤ tt; formed = tt }; built = tt };
-    or_null = record { valid = record { shallow = lit≤ tt; formed = (refl, tt) }; built = tt };
+    plain = record { valid = record { shallow = omega (arith, is.shallow); formed = is.formed }; built = is.has_values };
+    or_null = record { valid = record { shallow = omega (arith, is.shallow); formed = (is.no_null, is.formed) }; built = is.has_values };
   };
   arrays = record {
-    plain = record { valid = record { shallow = lit≤ tt; formed = (refl, tt) }; built = tt };
-    or_null = record { valid = record { shallow = lit≤ tt; formed = (refl, (refl, tt)) }; built = tt };
+    plain = record { valid = record { shallow = omega (arith, is.shallow); formed = (is.no_array_or_null, is.formed) }; built = is.has_values };
+    or_null = record { valid = record { shallow = omega (arith, is.shallow); formed = (refl, (is.no_array_or_null, is.formed)) }; built = is.has_values };
   };
   null_arrays = record {
-    plain = record { valid = record { shallow = lit≤ tt; formed = (refl, (refl, tt)) }; built = tt };
-    or_null = record { valid = record { shallow = lit≤ tt; formed = (refl, (refl, (refl, tt))) }; built = tt };
+    plain = record { valid = record { shallow = omega (arith, is.shallow); formed = (is.no_array, (is.no_null, is.formed)) }; built = is.has_values };
+    or_null = record { valid = record { shallow = omega (arith, is.shallow); formed = (refl, (is.no_array, (is.no_null, is.formed))) }; built = is.has_values };
   };
 }
 
-all_parts : AllByRecursion (λ e. AreParts e.1) type_names
-all_parts = (scalar_known bool, (scalar_known char, (scalar_known int2, (scalar_known int4, (scalar_known int8, (scalar_known oid, (scalar_known text, (scalar_known bytea, (scalar_known uuid, (scalar_known money, (scalar_known pg_lsn, (scalar_known macaddr, (scalar_known macaddr8, (scalar_known inet, (scalar_known cidr, (scalar_known date, (scalar_known time, (scalar_known timestamp, (scalar_known timestamptz, (scalar_known interval, (scalar_known numeric, tt)))))))))))))))))))))
+-- a scalar type, and ranges and multiranges over one that has them
+one : (s : Scalar) → IsSingle (scalar s)
+one s = record { shallow = lit≤ tt; formed = tt; has_values = tt; no_null = refl; no_array = refl; no_array_or_null = refl }
+
+ranges : (s : Scalar) → IsTrue (is_bound s) → IsSingle (range (scalar s))
+ranges s has = record { shallow = lit≤ tt; formed = (has, tt); has_values = has; no_null = refl; no_array = refl; no_array_or_null = refl }
+
+multiranges : (s : Scalar) → IsTrue (is_bound s) → IsSingle (multirange (scalar s))
+multiranges s has = record { shallow = lit≤ tt; formed = (has, tt); has_values = has; no_null = refl; no_array = refl; no_array_or_null = refl }
+
+all_single : AllByRecursion (λ e. IsSingle e.1) type_names
+all_single = (one bool, (one char, (one int2, (one int4, (one int8, (one oid, (one text, (one bytea, (one uuid, (one money, (one pg_lsn, (one macaddr, (one macaddr8, (one inet, (one cidr, (one date, (one time, (one timestamp, (one timestamptz, (one interval, (one numeric, (ranges int4 refl, (ranges int8 refl, (ranges numeric refl, (ranges date refl, (ranges timestamp refl, (ranges timestamptz refl, (multiranges int4 refl, (multiranges int8 refl, (multiranges numeric refl, (multiranges date refl, (multiranges timestamp refl, (multiranges timestamptz refl, tt)))))))))))))))))))))))))))))))))
 
 -- What holds of what is read of words and of that or null, holds of what is read with the mark.
 marked_has : (read : List ℕ → Option Shape) (P Q : Shape → Type 0) (word : List ℕ) (t : Shape) → ((word : List ℕ) (t : Shape) → read word ≡ Some t → P t) → ((t : Shape) → P t → Q t) → ((t : Shape) → P t → Q (nullable t))
@@ -140,24 +159,24 @@ marked_has read P Q word t has plain null e = by (in_front (codes "?") word) ref
     by None is = plain t (has word t (rw is at e))
     by (Some front) is = marked front (read front) refl (rw is at e)
 
-scalar_parts : (name : List ℕ) (t : Shape) → scalar_of name ≡ Some t → AreParts t
-scalar_parts name t = found_has AreParts name type_names t all_parts
+single_parts : (name : List ℕ) (t : Shape) → single_of name ≡ Some t → AreParts t
+single_parts name t e = parts_known t (found_has IsSingle name type_names t all_single e)
 
-part_known : (word : List ℕ) (t : Shape) → array_or_scalar word ≡ Some t → AreKnown t
+part_known : (word : List ℕ) (t : Shape) → array_or_single word ≡ Some t → AreKnown t
 part_known word t e = by (in_front (codes "[]") word) refl
   where
-    arrays : (element : List ℕ) (r : Option Shape) → or_null scalar_of element ≡ r → option_map array r ≡ Some t → AreKnown t
+    arrays : (element : List ℕ) (r : Option Shape) → or_null single_of element ≡ r → option_map array r ≡ Some t → AreKnown t
     arrays element None is e = absurd (cc)
     arrays element (Some s) is e =
         let same : array s ≡ t = cc in
-        subst AreKnown same (marked_has scalar_of AreParts (λ s. AreKnown (array s)) element s scalar_parts (λ s parts. parts.arrays) (λ s parts. parts.null_arrays) is)
+        subst AreKnown same (marked_has single_of AreParts (λ s. AreKnown (array s)) element s single_parts (λ s parts. parts.arrays) (λ s parts. parts.null_arrays) is)
 
     by : (r : Option (List ℕ)) → in_front (codes "[]") word ≡ r → AreKnown t
-    by None is = (scalar_parts word t (rw is at e)).one
-    by (Some element) is = arrays element (or_null scalar_of element) refl (rw is at e)
+    by None is = (single_parts word t (rw is at e)).one
+    by (Some element) is = arrays element (or_null single_of element) refl (rw is at e)
 
 pub known : (word : List ℕ) (t : Shape) → type_of word ≡ Some t → IsKnown t
-known word t = marked_has array_or_scalar AreKnown IsKnown word t part_known (λ t are. are.plain) (λ t are. are.or_null)
+known word t = marked_has array_or_single AreKnown IsKnown word t part_known (λ t are. are.plain) (λ t are. are.or_null)
 
 -- each of the types that words name
 pub all_known : (words : List (List ℕ)) → AllByRecursion IsValidColumn (filter_map type_of words) × AllByRecursion IsBuilt (filter_map type_of words)

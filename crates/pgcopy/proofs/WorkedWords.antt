@@ -1,7 +1,7 @@
 -- What some command lines ask for, computed from the definitions.
 use Rattle.std.proofs.Common.{◌≡◌, ℕ, List, [], ◌∷◌, ◌++◌, codes, Option, Some, None, option_map, Result, Ok, Err, refl, ap, arith, inl}
 use Rattle.pgw_meta.specs.Known.{Key}
-use Rattle.pgw_meta.specs.Shape.{Shape, scalar, int4, text, macaddr, macaddr8, nullable, array, named as named_type}
+use Rattle.pgw_meta.specs.Shape.{Shape, scalar, int4, int8, text, macaddr, macaddr8, date, timestamptz, numeric, nullable, array, range, multirange, named as named_type}
 use Rattle.pgw_meta.specs.declared.found_oids.Found.{Found}
 use Rattle.pgw_tree.specs.Limits.{default_limits}
 use Rattle.pgcopy.specs.declared.words.WordFault.{WordFault}
@@ -22,6 +22,15 @@ named_nothing = (refl, refl, refl, refl, refl)
 arrays_named : (type_of (codes "int4[]") ≡ Some (array (scalar int4))) × (type_of (codes "int4?[]") ≡ Some (array (nullable (scalar int4))))
     × (type_of (codes "text[]?") ≡ Some (nullable (array (scalar text)))) × (type_of (codes "text?[]?") ≡ Some (nullable (array (nullable (scalar text)))))
 arrays_named = (refl, refl, refl, refl)
+
+-- ranges and multiranges, which stand where a scalar type does
+ranges_named : (type_of (codes "int4range") ≡ Some (range (scalar int4))) × (type_of (codes "numrange?") ≡ Some (nullable (range (scalar numeric))))
+    × (type_of (codes "tstzmultirange") ≡ Some (multirange (scalar timestamptz))) × (type_of (codes "daterange?[]") ≡ Some (array (nullable (range (scalar date)))))
+    × (type_of (codes "int8multirange[]?") ≡ Some (nullable (array (multirange (scalar int8)))))
+ranges_named = (refl, refl, refl, refl, refl)
+
+no_ranges : (type_of (codes "int2range") ≡ None) × (type_of (codes "numericrange") ≡ None) × (type_of (codes "timerange") ≡ None) × (type_of (codes "tsrange[") ≡ None)
+no_ranges = (refl, refl, refl, refl)
 
 no_arrays : (type_of (codes "[]") ≡ None) × (type_of (codes "?[]") ≡ None) × (type_of (codes "int4[") ≡ None) × (type_of (codes "int4]") ≡ None) × (type_of (codes "int4 []") ≡ None)
     × (type_of (codes "int4[][]") ≡ None) × (type_of (codes "int4[]?[]") ≡ None) × (type_of (codes "int4??[]") ≡ None) × (type_of (codes "int4[]??") ≡ None) × (type_of (codes "int4[ ]") ≡ None)

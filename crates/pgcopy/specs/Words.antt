@@ -6,7 +6,7 @@ use Rattle.std.specs.Option.{option_or, option_and_then, option_map_or}
 use Rattle.std.specs.Result.{result_err}
 use Rattle.std.specs.Str.{bytes_eq}
 use Rattle.std.specs.Str.Parse.{digits_value}
-use Rattle.pgw_meta.specs.Shape.{Shape, scalar, nullable, array, bool, char, int2, int4, int8, oid, text, bytea, uuid, money, pg_lsn, macaddr, macaddr8, inet, cidr, date, time, timestamp, timestamptz, interval, numeric}
+use Rattle.pgw_meta.specs.Shape.{Shape, scalar, nullable, array, range, multirange, bool, char, int2, int4, int8, oid, text, bytea, uuid, money, pg_lsn, macaddr, macaddr8, inet, cidr, date, time, timestamp, timestamptz, interval, numeric}
 use Rattle.pgw_meta.specs.Known.{Key, Known}
 use Rattle.pgw_meta.specs.Needs.{is_same_key, needs_of}
 use Rattle.pgw_meta.specs.NamedOids.{known_of}
@@ -31,7 +31,13 @@ type_names =
     ∷ (codes "macaddr8", scalar macaddr8) ∷ (codes "inet", scalar inet) ∷ (codes "cidr", scalar cidr)
     ∷ (codes "date", scalar date) ∷ (codes "time", scalar time) ∷ (codes "timestamp", scalar timestamp)
     ∷ (codes "timestamptz", scalar timestamptz) ∷ (codes "interval", scalar interval)
-    ∷ (codes "numeric", scalar numeric) ∷ []
+    ∷ (codes "numeric", scalar numeric) ∷ (codes "int4range", range (scalar int4))
+    ∷ (codes "int8range", range (scalar int8)) ∷ (codes "numrange", range (scalar numeric))
+    ∷ (codes "daterange", range (scalar date)) ∷ (codes "tsrange", range (scalar timestamp))
+    ∷ (codes "tstzrange", range (scalar timestamptz)) ∷ (codes "int4multirange", multirange (scalar int4))
+    ∷ (codes "int8multirange", multirange (scalar int8)) ∷ (codes "nummultirange", multirange (scalar numeric))
+    ∷ (codes "datemultirange", multirange (scalar date)) ∷ (codes "tsmultirange", multirange (scalar timestamp))
+    ∷ (codes "tstzmultirange", multirange (scalar timestamptz)) ∷ []
 
 -- what stands beside a name in a table
 abbrev pub look_up : {A : Type 0} → List ℕ → List (List ℕ × A) → Option A
@@ -45,21 +51,21 @@ in_front back (byte ∷ bytes) =
     if bytes_eq (byte ∷ bytes) back then Some [] else option_map (λ front. byte ∷ front) (in_front back bytes)
 
 -- the type of a name
-abbrev pub scalar_of : List ℕ → Option Shape
-scalar_of name = look_up name type_names
+abbrev pub single_of : List ℕ → Option Shape
+single_of name = look_up name type_names
 
 -- what is read of words, or that or null, which a `?` at the end of a word says
 abbrev pub or_null : (List ℕ → Option Shape) → List ℕ → Option Shape
 or_null read word = option_map_or (λ front. option_map nullable (read front)) (in_front (codes "?") word) (read word)
 
 -- A type by its name; or, in front of `[]`, the type of the elements of an array, which may be null too.
-abbrev pub array_or_scalar : List ℕ → Option Shape
-array_or_scalar word =
-    option_map_or (λ element. option_map array (or_null scalar_of element)) (in_front (codes "[]") word) (scalar_of word)
+abbrev pub array_or_single : List ℕ → Option Shape
+array_or_single word =
+    option_map_or (λ element. option_map array (or_null single_of element)) (in_front (codes "[]") word) (single_of word)
 
 -- The column type that a word names: such a type, or it or null.
 abbrev pub type_of : List ℕ → Option Shape
-type_of = or_null array_or_scalar
+type_of = or_null array_or_single
 
 -- what stands in a word behind these bytes, where it begins with them
 abbrev pub behind : List ℕ → List ℕ → Option (List ℕ)

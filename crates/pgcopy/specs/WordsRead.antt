@@ -2,9 +2,11 @@
 use Rattle.std.specs.Prelude.{◌≡◌, ℕ, ◌≤◌, ◌==◌, List, length, codes, option_map, IfSome, if◌then◌else◌}
 use Rattle.std.specs.List.{filter_map, list_all}
 use Rattle.std.specs.Str.Parse.{digits_value}
-use Rattle.pgw_meta.specs.Shape.{Shape, nullable, array}
+use Rattle.pgw_meta.specs.Shape.{Shape, nullable, array, range, multirange}
 use Rattle.pgw_meta.specs.Types.{shape, column_shapes}
 use Rattle.pgcopy.specs.declared.words.NamedType.{NamedType}
+use Rattle.pgcopy.specs.declared.words.Single.{Single}
+use Rattle.pgcopy.specs.declared.words.Single.TheVariants.{Scalar, Range, Multirange}
 use Rattle.pgcopy.specs.declared.words.Plan.{Plan}
 use Rattle.pgcopy.specs.declared.words.WordsRead.{WordsRead}
 use Rattle.pgcopy.specs.Words.{type_of, is_option, digits_in, PlanData}
@@ -17,11 +19,17 @@ pub record AreRead (seen : WordsRead) (words : List (List ℕ)) : Type 0 where
   pub types : seen.types ≡ length (filter_map type_of words)
   pub begun : (seen.types == 0) ≡ list_all is_option words
 
--- what a value of it is that is not null: a scalar, or an array of such
+-- the type of what is kept of a name
+abbrev pub single_shape : Single → Shape
+single_shape (Scalar t) = shape t
+single_shape (Range part) = range (shape part)
+single_shape (Multirange part) = multirange (shape part)
+
+-- what a value of it is that is not null: one of such a type, or an array of such
 abbrev pub part_shape : NamedType → Shape
 part_shape named =
-    if named.is_array then array (if named.null_elements then nullable (shape named.scalar) else shape named.scalar)
-    else shape named.scalar
+    if named.is_array then array (if named.null_elements then nullable (single_shape named.single) else single_shape named.single)
+    else single_shape named.single
 
 -- the column type of what is kept of a word that names one
 abbrev pub named_shape : NamedType → Shape

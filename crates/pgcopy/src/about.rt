@@ -34,6 +34,12 @@ null, so that 'int4?[]?' is null or an array of numbers and nulls:
   timestamptz  the same in UTC
   interval     a span of time, as microseconds, days and months
   numeric      a number of any precision, by its digits, or not a number
+  int4range, int8range, numrange, daterange, tsrange, tstzrange
+               a range of values of int4, int8, numeric, date, timestamp or
+               timestamptz
+  int4multirange, int8multirange, nummultirange, datemultirange, tsmultirange,
+  tstzmultirange
+               any number of such ranges
 
 options, in front of the types; rows= and field= at most once:
   rows=N   refuse a stream of more than N rows, N up to 18446744073709551615

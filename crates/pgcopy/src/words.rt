@@ -9,8 +9,8 @@ ghost use Rattle.pgw_meta.specs.Schema.{IsValidSchema};
 ghost use Rattle.pgw_tree.specs.ColumnTypes.{AreBuilt};
 ghost use Rattle.pgw_tree.specs.Limits.{default_limits};
 ghost use Rattle.pgcopy.specs.OidWords.{given_entry};
-ghost use Rattle.pgcopy.specs.Words.{type_names, look_up, in_front, scalar_of, or_null, array_or_scalar, type_of, behind, is_option, entry_of, number_of, option_fault, word_fault, first_fault, PlanData, IsPlan, HasNoPlan, PlacedFault, IsFirstFault, plan_of, texts};
-ghost use Rattle.pgcopy.specs.WordsRead.{AreRead, part_shape, named_shape, plan_data};
+ghost use Rattle.pgcopy.specs.Words.{type_names, look_up, in_front, single_of, or_null, array_or_single, type_of, behind, is_option, entry_of, number_of, option_fault, word_fault, first_fault, PlanData, IsPlan, HasNoPlan, PlacedFault, IsFirstFault, plan_of, texts};
+ghost use Rattle.pgcopy.specs.WordsRead.{AreRead, single_shape, part_shape, named_shape, plan_data};
 
 use crate::numbers::read_number;
 use crate::oid_words::{GivenOids, given_oids};
@@ -96,42 +96,62 @@ struct WordsRead {
     types: usize,
 }
 
-/// The type that a word names, for which no memory was asked yet: a scalar type or arrays of it, where elements may be null,
+/// A type with a name of its own, for which no memory was asked yet: a scalar type, or ranges or multiranges over one.
+#[derive(Drop)]
+enum Single {
+    Scalar(PgType),
+    Range(PgType),
+    Multirange(PgType),
+}
+
+/// The type that a word names, for which no memory was asked yet: such a type or arrays of it, where elements may be null,
 /// and whether the column may be null.
 #[derive(Drop)]
 struct NamedType {
-    scalar: PgType,
+    single: Single,
     null_elements: bool,
     is_array: bool,
     or_null: bool,
 }
 
 /// The type of a name.
-fn named_type(name: &str) -> Option<PgType>
-    ensures { option_map shape result ≡ look_up name.now type_names }
+fn single_named(name: &str) -> Option<Single>
+    ensures { option_map single_shape result ≡ look_up name.now type_names }
 {
     match name {
-        "bool" => Some(PgType::Bool),
-        "char" => Some(PgType::Char),
-        "int2" => Some(PgType::Int2),
-        "int4" => Some(PgType::Int4),
-        "int8" => Some(PgType::Int8),
-        "oid" => Some(PgType::Oid),
-        "text" => Some(PgType::Text),
-        "bytea" => Some(PgType::Bytea),
-        "uuid" => Some(PgType::Uuid),
-        "money" => Some(PgType::Money),
-        "pg_lsn" => Some(PgType::Lsn),
-        "macaddr" => Some(PgType::Mac),
-        "macaddr8" => Some(PgType::Mac8),
-        "inet" => Some(PgType::Inet),
-        "cidr" => Some(PgType::Cidr),
-        "date" => Some(PgType::Date),
-        "time" => Some(PgType::Time),
-        "timestamp" => Some(PgType::Timestamp),
-        "timestamptz" => Some(PgType::Timestamptz),
-        "interval" => Some(PgType::Interval),
-        "numeric" => Some(PgType::Numeric),
+        "bool" => Some(Single::Scalar(PgType::Bool)),
+        "char" => Some(Single::Scalar(PgType::Char)),
+        "int2" => Some(Single::Scalar(PgType::Int2)),
+        "int4" => Some(Single::Scalar(PgType::Int4)),
+        "int8" => Some(Single::Scalar(PgType::Int8)),
+        "oid" => Some(Single::Scalar(PgType::Oid)),
+        "text" => Some(Single::Scalar(PgType::Text)),
+        "bytea" => Some(Single::Scalar(PgType::Bytea)),
+        "uuid" => Some(Single::Scalar(PgType::Uuid)),
+        "money" => Some(Single::Scalar(PgType::Money)),
+        "pg_lsn" => Some(Single::Scalar(PgType::Lsn)),
+        "macaddr" => Some(Single::Scalar(PgType::Mac)),
+        "macaddr8" => Some(Single::Scalar(PgType::Mac8)),
+        "inet" => Some(Single::Scalar(PgType::Inet)),
+        "cidr" => Some(Single::Scalar(PgType::Cidr)),
+        "date" => Some(Single::Scalar(PgType::Date)),
+        "time" => Some(Single::Scalar(PgType::Time)),
+        "timestamp" => Some(Single::Scalar(PgType::Timestamp)),
+        "timestamptz" => Some(Single::Scalar(PgType::Timestamptz)),
+        "interval" => Some(Single::Scalar(PgType::Interval)),
+        "numeric" => Some(Single::Scalar(PgType::Numeric)),
+        "int4range" => Some(Single::Range(PgType::Int4)),
+        "int8range" => Some(Single::Range(PgType::Int8)),
+        "numrange" => Some(Single::Range(PgType::Numeric)),
+        "daterange" => Some(Single::Range(PgType::Date)),
+        "tsrange" => Some(Single::Range(PgType::Timestamp)),
+        "tstzrange" => Some(Single::Range(PgType::Timestamptz)),
+        "int4multirange" => Some(Single::Multirange(PgType::Int4)),
+        "int8multirange" => Some(Single::Multirange(PgType::Int8)),
+        "nummultirange" => Some(Single::Multirange(PgType::Numeric)),
+        "datemultirange" => Some(Single::Multirange(PgType::Date)),
+        "tsmultirange" => Some(Single::Multirange(PgType::Timestamp)),
+        "tstzmultirange" => Some(Single::Multirange(PgType::Timestamptz)),
         _ => None,
     }
 }
@@ -145,31 +165,31 @@ fn in_front<'a>(word: &'a str, back: &str) -> Option<&'a str>
 
 /// The type of the elements of an array: that of the name in a word, and whether a `?` behind it says that elements may be
 /// null.
-fn element_of(word: &str) -> Option<(PgType, bool)>
-    ensures { option_map (λ t. if t.1 then nullable (shape t.0) else shape t.0) result ≡ or_null scalar_of word.now }
+fn element_of(word: &str) -> Option<(Single, bool)>
+    ensures { option_map (λ t. if t.1 then nullable (single_shape t.0) else single_shape t.0) result ≡ or_null single_of word.now }
 {
     let marked = in_front(word, "?");
-    let scalar = named_type(marked.unwrap_or(word))?;
-    Some((scalar, marked.is_some()))
+    let single = single_named(marked.unwrap_or(word))?;
+    Some((single, marked.is_some()))
 }
 
-/// The type that a word names without null: a scalar, or an array of elements.
-fn array_or_scalar(word: &str) -> Option<NamedType>
-    ensures part { option_map part_shape result ≡ array_or_scalar word.now }
+/// The type that a word names without null: one with a name of its own, or an array of elements.
+fn array_or_single(word: &str) -> Option<NamedType>
+    ensures part { option_map part_shape result ≡ array_or_single word.now }
     ensures null { IfSome result (λ named. named.or_null ≡ false) }
 {
     match in_front(word, "[]") {
         Some(element) => {
-            let (scalar, null_elements) = element_of(element)?;
+            let (single, null_elements) = element_of(element)?;
             Some(NamedType {
-                scalar,
+                single,
                 null_elements,
                 is_array: true,
                 or_null: false,
             })
         }
         None => Some(NamedType {
-            scalar: named_type(word)?,
+            single: single_named(word)?,
             null_elements: false,
             is_array: false,
             or_null: false,
@@ -182,7 +202,7 @@ fn type_of(word: &str) -> Option<NamedType>
     ensures { option_map named_shape result ≡ type_of word.now }
 {
     let marked = in_front(word, "?");
-    let part = array_or_scalar(marked.unwrap_or(word))?;
+    let part = array_or_single(marked.unwrap_or(word))?;
     Some(NamedType {
         or_null: marked.is_some(),
         ..part
@@ -200,15 +220,27 @@ fn or_null(alloc: Global, t: PgType, may_be_null: bool) -> Result<PgType, NoMemo
     }
 }
 
+/// The type with a name of its own.
+fn type_alone(alloc: Global, single: Single) -> Result<PgType, NoMemory>
+    ensures { IfOk result (λ t. shape t ≡ single_shape single) }
+{
+    match single {
+        Single::Scalar(t) => Ok(t),
+        Single::Range(part) => Ok(PgType::Range(Box::new(alloc, part)?)),
+        Single::Multirange(part) => Ok(PgType::Multirange(Box::new(alloc, part)?)),
+    }
+}
+
 /// The type of a column that a word names.
 fn column_of(alloc: Global, named: NamedType) -> Result<PgType, NoMemory>
     ensures { IfOk result (λ column. shape column ≡ named_shape named) }
 {
+    let single = type_alone(alloc, named.single)?;
     let part = if named.is_array {
-        let element = or_null(alloc, named.scalar, named.null_elements)?;
+        let element = or_null(alloc, single, named.null_elements)?;
         PgType::Array(Box::new(alloc, element)?)
     } else {
-        named.scalar
+        single
     };
     or_null(alloc, part, named.or_null)
 }

@@ -16,7 +16,7 @@ fn read(rt: &impl Abort, alloc: Global, words: &[&str]) -> Result<(u64, u32, usi
 }
 
 // words, the limits that they set, and how many columns they have
-const LIMITS: [(&[&str], u64, u32, usize); 11] = [
+const LIMITS: [(&[&str], u64, u32, usize); 12] = [
     (
         &[
             "copy", "bool", "char?", "int2", "int4?", "int8", "oid", "text", "bytea?", "uuid",
@@ -27,6 +27,12 @@ const LIMITS: [(&[&str], u64, u32, usize); 11] = [
         13,
     ),
     (&["copy", "int4"], 18446744073709551615, 2147483647, 1),
+    (
+        &["copy", "int8range", "tsmultirange?", "numrange?[]"],
+        18446744073709551615,
+        2147483647,
+        3,
+    ),
     (&["copy", "rows=0", "int4", "text"], 0, 2147483647, 2),
     (&["copy", "rows=5", "field=2", "text"], 5, 2, 1),
     (&["copy", "field=2", "text"], 18446744073709551615, 2, 1),

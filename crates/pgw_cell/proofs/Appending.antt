@@ -4,7 +4,7 @@ use Rattle.pgw_wire.specs.Cell.{Cell, frame}
 use Rattle.pgw_wire.specs.declared.kind.Break.{Break}
 use Rattle.pgw_meta.specs.Known.{Known}
 use Rattle.pgw_meta.specs.NamedOids.{oids_of}
-use Rattle.pgw_meta.specs.Shape.{Shape, array, range}
+use Rattle.pgw_meta.specs.Shape.{Shape, array, range, multirange}
 use Rattle.pgw_meta.specs.Types.{shape}
 use Rattle.pgw_meta.specs.declared.key.TypeKey.{TypeKey}
 use Rattle.pgw_meta.specs.declared.types.PgType.{PgType, Nullable, Named}
@@ -26,7 +26,7 @@ use Rattle.pgw_cell.proofs.Counted.{IsLeaf, piece_counted, size_ok}
 use Rattle.pgw_cell.proofs.Multiranges.{no_oids}
 use Rattle.pgw_cell.proofs.Pieces.{piece_told, piece_written}
 use Rattle.pgw_cell.proofs.PlainFields.{ReadsPlain}
-use Rattle.pgw_cell.proofs.RangeAnswers.{range_was_read}
+use Rattle.pgw_cell.proofs.RangeAnswers.{range_was_read, range_sizes}
 use Rattle.pgw_cell.proofs.Reading.{value_again, value_refused, value_spelled, value_broken}
 use Rattle.pgw_cell.proofs.Rewriting.{cell_bytes, piece_bytes, piece_read, leaf_again, leaf_bytes}
 
@@ -128,19 +128,9 @@ counted_room known t p n most spare x fits max room = record {
   small = omega (arith, x.long, x.many, fits, max);
 }
 
--- ---- ranges
-
--- the value of a range whose bounds are written as these cells
-pub record WrittenRange (t : Shape) (p : List ℕ) (cells : Bounds Cell) : Type 0 where
-  pub value : Value
-  pub reads : read_piece (range t) p ≡ Ok value
-  pub is : (range_spelling t).canonical value ≡ range_bytes cells
-  pub many : piece_size (range t) value ≡ length (range_bytes cells)
-
-pub range_written : (t : Shape) (p : List ℕ) (cells : Bounds Cell) → IsBytes p → Ok cells ≡ range_read t p → WrittenRange t p cells
-range_written t p cells bytes e =
-    let r = range_was_read t p cells e in
-    record { value = range_of r.bounds; reads = r.reads; is = r.bytes; many = piece_long no_oids (range t) p (range_of r.bounds) bytes r.reads ∙ ap length r.bytes }
+-- What is read of a range whose bounds are written as these cells has as many bytes as they have.
+pub range_counted : (known : Known) (t : Shape) (p : List ℕ) (cells : Bounds Cell) → IsBytes p → Ok cells ≡ range_read t p → IsCounted known (range t) p (counted (length (range_bytes cells)))
+range_counted known t p cells bytes e = is_counted known (range t) p _ bytes (range_sizes t p cells bytes (range_was_read t p cells e))
 
 -- ---- cells
 

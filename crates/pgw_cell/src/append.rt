@@ -140,10 +140,8 @@ fn append_range(
 {
     match written_range(part, piece) {
         Ok(range) => {
-            let size = range.len();
-            make_room(size, most, out)?;
-            out.push_reserved(&(size as u32).to_be_bytes());
-            range.push_reserved(out);
+            make_room(range.len(), most, out)?;
+            range.push_field(out);
             Ok(())
         }
         Err(kind) => Err(AppendFault::Break(kind)),

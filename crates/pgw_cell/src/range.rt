@@ -82,7 +82,7 @@ impl<'a> CanonicalRange<'a> {
     }
 
     /// Appends the bytes into the room that was made for them.
-    pub(crate) fn push_reserved(self, out: &mut ByteBuffer)
+    fn push_reserved(self, out: &mut ByteBuffer)
         requires room { length (bytes_of_range self) ≤ out.old.spare }
         requires small { length (bytes_of_range self) ≤ 2147483647 }
         ensures bytes { out.new.bytes ≡ out.old.bytes ++ bytes_of_range self.entry }
@@ -91,6 +91,17 @@ impl<'a> CanonicalRange<'a> {
         place_range(out, kind_of(&self.lower), kind_of(&self.upper));
         push_bound(self.lower, out);
         push_bound(self.upper, out);
+    }
+
+    /// Appends their field into the room that was made for it.
+    pub(crate) fn push_field(self, out: &mut ByteBuffer)
+        requires room { 4 + length (bytes_of_range self) ≤ out.old.spare }
+        requires small { length (bytes_of_range self) ≤ 2147483647 }
+        ensures bytes { out.new.bytes ≡ out.old.bytes ++ frame (Some (bytes_of_range self.entry)) }
+        ensures spare { out.new.spare + (4 + length (bytes_of_range self.entry)) ≡ out.old.spare }
+    {
+        out.push_reserved(&(self.len() as u32).to_be_bytes());
+        self.push_reserved(out);
     }
 }
 
@@ -168,10 +179,7 @@ pub(crate) fn push_range(part: &PgType, piece: &[u8], out: &mut ByteBuffer)
         (λ v. frame (Some ((range_spelling (shape part.now)).canonical v))) out.old out.new }
 {
     match written_range(part, piece) {
-        Ok(range) => {
-            out.push_reserved(&(range.len() as u32).to_be_bytes());
-            range.push_reserved(out);
-        }
+        Ok(range) => range.push_field(out),
         Err(_) => unreachable!(),
     }
 }

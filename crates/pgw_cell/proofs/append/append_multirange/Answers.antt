@@ -12,29 +12,26 @@ use Rattle.pgw_cell.proofs.append.append_multirange.Goals as goal
 
 pub returns-in_err-make_room-in-Ok : goal.returns-in_err-make_room-in-Ok
 returns-in_err-make_room-in-Ok c =
-    let known = no_oids in
     let s = multirange (shape c.args.part.now) in
     let p = c.args.piece.now in
-    let x = is_counted known s p c.in-Ok.size (λ i. omega (arith, c.type_inv.piece i)) (sym c.in-Ok.is ∙ c.sized_multirange.ensures) in
+    let x = is_counted no_oids s p c.in-Ok.size (λ i. omega (arith, c.type_inv.piece i)) (sym c.in-Ok.is ∙ c.sized_multirange.ensures) in
     rw (exit c.from_residual.result _ c.from_residual.ensures.1)
-    (no_room (read_piece s p) (piece_size s) (piece_bytes known s) c.args.most c.args.out.now.bytes c.make_room.new.out.bytes (Err c.in_err-make_room-in-Ok.field-0.0) x.value c.in-Ok.size x.reads
+    (no_room (read_piece s p) (piece_size s) (piece_bytes no_oids s) c.args.most c.args.out.now.bytes c.make_room.new.out.bytes (Err c.in_err-make_room-in-Ok.field-0.0) x.value c.in-Ok.size x.reads
     (λ h. omega (arith, h, x.many)) (λ h. omega (arith, h, x.many, c.requires)) c.in_err-make_room-in-Ok.ensures.bytes c.in_err-make_room-in-Ok.ensures.err)
 
 pub push_multirange-requires : goal.push_multirange-requires
 push_multirange-requires c =
-    let known = no_oids in
     let s = multirange (shape c.args.part.now) in
     let p = c.args.piece.now in
-    let x = is_counted known s p c.in-Ok.size (λ i. omega (arith, c.type_inv.piece i)) (sym c.in-Ok.is ∙ c.sized_multirange.ensures) in
-    counted_room known s p c.in-Ok.size c.args.most c.make_room.new.out.spare x c.in_ok-make_room-in-Ok.ensures.fits c.requires c.in_ok-make_room-in-Ok.ensures.room
+    let x = is_counted no_oids s p c.in-Ok.size (λ i. omega (arith, c.type_inv.piece i)) (sym c.in-Ok.is ∙ c.sized_multirange.ensures) in
+    counted_room no_oids s p c.in-Ok.size c.args.most c.make_room.new.out.spare x c.in_ok-make_room-in-Ok.ensures.fits c.requires c.in_ok-make_room-in-Ok.ensures.room
 
 pub returns-in_ok-make_room-in-Ok : goal.returns-in_ok-make_room-in-Ok
 returns-in_ok-make_room-in-Ok c =
-    let known = no_oids in
     let s = multirange (shape c.args.part.now) in
     let p = c.args.piece.now in
-    let x = is_counted known s p c.in-Ok.size (λ i. omega (arith, c.type_inv.piece i)) (sym c.in-Ok.is ∙ c.sized_multirange.ensures) in
-    let wrote = (c.push_multirange.ensures x.value x.reads).0 ∙ ap (λ l. l ++ piece_bytes known s x.value) c.in_ok-make_room-in-Ok.ensures.bytes in
+    let x = is_counted no_oids s p c.in-Ok.size (λ i. omega (arith, c.type_inv.piece i)) (sym c.in-Ok.is ∙ c.sized_multirange.ensures) in
+    let wrote = (c.push_multirange.ensures x.value x.reads).0 ∙ ap (λ l. l ++ piece_bytes no_oids s x.value) c.in_ok-make_room-in-Ok.ensures.bytes in
     has_field x.value x.reads (omega (arith, x.many, c.in_ok-make_room-in-Ok.ensures.fits, c.requires)) wrote refl
 
 pub returns-in-Err : goal.returns-in-Err
