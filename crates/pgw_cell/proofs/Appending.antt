@@ -4,7 +4,7 @@ use Rattle.pgw_wire.specs.Cell.{Cell, frame}
 use Rattle.pgw_wire.specs.declared.kind.Break.{Break}
 use Rattle.pgw_meta.specs.Known.{Known}
 use Rattle.pgw_meta.specs.NamedOids.{oids_of}
-use Rattle.pgw_meta.specs.Shape.{Shape, array, range, multirange}
+use Rattle.pgw_meta.specs.Shape.{Shape, array, range}
 use Rattle.pgw_meta.specs.Types.{shape}
 use Rattle.pgw_meta.specs.declared.key.TypeKey.{TypeKey}
 use Rattle.pgw_meta.specs.declared.types.PgType.{PgType, Nullable, Named}
@@ -12,8 +12,7 @@ use Rattle.pgw_scalar.proofs.Readers.{IsBytes, ok_is, err_is, never_both}
 use Rattle.pgw_nested.specs.Array.{array_head, flags_of}
 use Rattle.pgw_nested.specs.Range.{Bounds, range_bytes}
 use Rattle.pgw_nested.proofs.Beginnings.{head_length}
-use Rattle.pgw_cell.specs.Value.{Value, range_of}
-use Rattle.pgw_cell.specs.Ranges.{range_spelling}
+use Rattle.pgw_cell.specs.Value.{Value}
 use Rattle.pgw_cell.specs.Built.{IsBuilt}
 use Rattle.pgw_cell.specs.Pieces.{HasPiece, canonical_piece, piece_size, read_piece}
 use Rattle.pgw_cell.specs.Cells.{Spells, Breaks, Fits, canonical_cell, canonical_size, read_value}
@@ -23,7 +22,6 @@ use Rattle.pgw_cell.specs.declared.append.AppendFault.{AppendFault}
 use Rattle.pgw_cell.specs.declared.append.AppendFault.TheVariants.{Break as Broken, TooLong, NoMemory}
 use Rattle.pgw_cell.proofs.ArrayPieces.{frame_length}
 use Rattle.pgw_cell.proofs.Counted.{IsLeaf, piece_counted, size_ok}
-use Rattle.pgw_cell.proofs.Multiranges.{no_oids}
 use Rattle.pgw_cell.proofs.Pieces.{piece_told, piece_written}
 use Rattle.pgw_cell.proofs.PlainFields.{ReadsPlain}
 use Rattle.pgw_cell.proofs.RangeAnswers.{range_was_read, range_sizes}
