@@ -4,7 +4,7 @@ use Rattle.std.specs.List.{flat_map}
 use Rattle.std.proofs.lemmas.Grind.{flat_map-append}
 use Rattle.pgw_copy.specs.Format.{IsField}
 use Rattle.pgw_meta.specs.Shape.{Shape, scalar, int4, text, nullable}
-use Rattle.pgw_cell.specs.Value.{Value, null, truth, number, bytes, string, network, interval, numeric, list}
+use Rattle.pgw_cell.specs.Value.{Value, null, truth, number, bytes, string, network, interval, numeric, list, range, multirange}
 use Rattle.pgw_tree.specs.Canonical.{canonical_row}
 use Rattle.pgw_tree.specs.Copying.{IsValuesRow}
 use Rattle.pgw_tree.specs.Plain.{IsPlainRow, ArePlainRows}
@@ -89,6 +89,8 @@ other_not_plain values p = none values p.is
     none (interval x ∷ vs) e = omega (arith, ap (λ l. get_or l 2 0) e)
     none (numeric x ∷ vs) e = omega (arith, ap (λ l. get_or l 2 0) e)
     none (list x ∷ vs) e = omega (arith, ap (λ l. get_or l 2 0) e)
+    none (range lower upper ∷ vs) e = omega (arith, ap (λ l. get_or l 2 0) e)
+    none (multirange x ∷ vs) e = omega (arith, ap (λ l. get_or l 2 0) e)
 
 -- It is respelled as the second row.
 pub respelled : AreRespelled unknown 4 columns 1 second_row other_row

@@ -1,7 +1,9 @@
 -- What is known of the types of columns whose rows are copied.
-use Rattle.std.specs.Prelude.{List, map, refl}
+use Rattle.std.specs.Prelude.{true, List, map, refl}
 use Rattle.std.specs.List.{AllByRecursion, AllByRecursion-prop}
+use Rattle.std.proofs.Math.Bool.{Bool-set}
 use Rattle.pgw_meta.specs.Known.{Known}
+use Rattle.pgw_meta.specs.Schema.{has_ranges}
 use Rattle.pgw_meta.specs.Shape.{Shape, scalar, nullable, array, range, multirange, composite, named}
 use Rattle.pgw_cell.specs.Built.{IsBuilt}
 use Rattle.pgw_cell.specs.Plain.{plain_cell}
@@ -16,8 +18,8 @@ IsBuilt-prop : (t : Shape) → IsProp (IsBuilt t)
 IsBuilt-prop (scalar s) = λ x y. refl
 IsBuilt-prop (nullable t) = IsBuilt-prop t
 IsBuilt-prop (array t) = IsBuilt-prop t
-IsBuilt-prop (range t) = λ x y. absurd x
-IsBuilt-prop (multirange t) = λ x y. absurd x
+IsBuilt-prop (range t) = Bool-set (has_ranges t) true
+IsBuilt-prop (multirange t) = Bool-set (has_ranges t) true
 IsBuilt-prop (composite ts) = λ x y. absurd x
 IsBuilt-prop (named k t) = IsBuilt-prop t
 
