@@ -20,7 +20,7 @@ fn citext(alloc: Global) -> Result<PgType, NoMemory>
 }
 
 /// The type or null.
-fn or_null(alloc: Global, t: PgType) -> Result<PgType, NoMemory>
+pub(crate) fn or_null(alloc: Global, t: PgType) -> Result<PgType, NoMemory>
     requires { IsBuilt (shape t) }
     ensures { IfOk result (λ t. IsBuilt (shape t)) }
 {
@@ -28,7 +28,7 @@ fn or_null(alloc: Global, t: PgType) -> Result<PgType, NoMemory>
 }
 
 /// The type of its arrays.
-fn array(alloc: Global, t: PgType) -> Result<PgType, NoMemory>
+pub(crate) fn array(alloc: Global, t: PgType) -> Result<PgType, NoMemory>
     requires { IsBuilt (shape t) }
     ensures { IfOk result (λ t. IsBuilt (shape t)) }
 {
@@ -114,7 +114,7 @@ fn pieces_of_several_parts_are_measured(rt: HostRuntime) {
 }
 
 /// Why the cell is not read.
-fn fault(alloc: Global, t: &PgType, cell: RawCell<'_>) -> Option<CellFault>
+pub(crate) fn fault(alloc: Global, t: &PgType, cell: RawCell<'_>) -> Option<CellFault>
     requires { IsBuilt (shape t.now) }
 {
     read_cell(alloc, t, cell).err()
@@ -151,15 +151,25 @@ fn cells_break_where_they_are_read(rt: HostRuntime) -> Result<(), Fail> {
 
 /// Buffers for the canonical fields of cells, appended and rewritten, and for those of the values that they spell.
 #[derive(Drop)]
-struct Both {
-    found: FoundOids,
-    appended: ByteBuffer,
-    rewritten: ByteBuffer,
-    written: ByteBuffer,
+pub(crate) struct Both {
+    pub(crate) found: FoundOids,
+    pub(crate) appended: ByteBuffer,
+    pub(crate) rewritten: ByteBuffer,
+    pub(crate) written: ByteBuffer,
 }
 
 impl Both {
-    fn cell(&mut self, t: &PgType, cell: RawCell<'_>) -> Result<(), Fail>
+    /// Empty buffers, where the oids of named types are these.
+    pub(crate) fn new(alloc: Global, found: FoundOids) -> Both {
+        Both {
+            found,
+            appended: ByteBuffer::new(alloc),
+            rewritten: ByteBuffer::new(alloc),
+            written: ByteBuffer::new(alloc),
+        }
+    }
+
+    pub(crate) fn cell(&mut self, t: &PgType, cell: RawCell<'_>) -> Result<(), Fail>
         requires { IsBuilt (shape t.now) }
     {
         let len = measure_cell(t, cell, 64)?;
@@ -172,7 +182,7 @@ impl Both {
         Ok(())
     }
 
-    fn piece(&mut self, t: &PgType, piece: &[u8]) -> Result<(), Fail>
+    pub(crate) fn piece(&mut self, t: &PgType, piece: &[u8]) -> Result<(), Fail>
         requires { IsBuilt (shape t.now) }
     {
         self.cell(t, RawCell::Piece(piece))
@@ -191,12 +201,7 @@ const PARTS: &[u8] = b"\0\0\0\x08\x02\x18\0\x04\xc0\xa8\0\x01\
 #[test]
 fn cells_of_several_parts_are_written_in_their_canonical_form(rt: HostRuntime) -> Result<(), Fail> {
     let alloc = rt.alloc();
-    let mut both = Both {
-        found: FoundOids::new(alloc),
-        appended: ByteBuffer::new(alloc),
-        rewritten: ByteBuffer::new(alloc),
-        written: ByteBuffer::new(alloc),
-    };
+    let mut both = Both::new(alloc, FoundOids::new(alloc));
     both.piece(&PgType::Inet, HOST)?;
     both.piece(&PgType::Interval, b"0123456789abcdef+")?;
     both.piece(&PgType::Numeric, b"\0\x01\xff\xff\x40\0\0\x04\0\x07\xaa")?;
@@ -211,12 +216,7 @@ fn cells_of_several_parts_are_written_in_their_canonical_form(rt: HostRuntime) -
 fn cells_are_written_in_their_canonical_form(rt: HostRuntime) -> Result<(), Fail> {
     let alloc = rt.alloc();
     let text = PgType::Nullable(Box::new(alloc, PgType::Text)?);
-    let mut both = Both {
-        found: FoundOids::new(alloc),
-        appended: ByteBuffer::new(alloc),
-        rewritten: ByteBuffer::new(alloc),
-        written: ByteBuffer::new(alloc),
-    };
+    let mut both = Both::new(alloc, FoundOids::new(alloc));
     both.piece(&PgType::Bool, b"\x02\xaa\xbb")?;
     both.piece(&PgType::Char, b"A\xff")?;
     both.piece(&PgType::Int2, b"\xff\xfe")?;
@@ -250,12 +250,7 @@ fn arrays_are_written_in_their_canonical_form(rt: HostRuntime) -> Result<(), Fai
         oid: 7,
         array_oid: 8,
     })?;
-    let mut both = Both {
-        found,
-        appended: ByteBuffer::new(alloc),
-        rewritten: ByteBuffer::new(alloc),
-        written: ByteBuffer::new(alloc),
-    };
+    let mut both = Both::new(alloc, found);
     let numbers = array(alloc, or_null(alloc, PgType::Int4)?)?;
     let with_null = b"\0\0\0\x01\0\0\0\x07\0\0\0\x63\0\0\0\x02\0\0\0\0\
         \0\0\0\x04\0\0\0\x2a\xff\xff\xff\xff\x09";

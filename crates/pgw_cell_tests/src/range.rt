@@ -1,0 +1,285 @@
+ghost use Rattle.std.specs.Prelude.{IfOk, IsTrue};
+ghost use Rattle.pgw_meta.specs.Schema.{has_ranges};
+ghost use Rattle.pgw_meta.specs.Types.{shape};
+ghost use Rattle.pgw_cell.specs.Built.{IsBuilt};
+
+use crate::cell::{Both, array, fault, or_null};
+use pgw_cell::{
+    AppendFault, BoundDatum, CellFault, Datum, MeasureFault, RangeDatum, RangeList, append_cell,
+    measure_cell, read_cell,
+};
+use pgw_meta::{FoundOids, PgType};
+use pgw_wire::{Break, ByteBuffer, NoMemory, RawCell};
+use std::alloc::Global;
+use std::test::Fail;
+
+/// The type of ranges over a type that PostgreSQL has ranges over.
+fn range(alloc: Global, part: PgType) -> Result<PgType, NoMemory>
+    requires { IsTrue (has_ranges (shape part)) }
+    ensures { IfOk result (λ t. IsBuilt (shape t)) }
+{
+    Ok(PgType::Range(Box::new(alloc, part)?))
+}
+
+/// The type of their lists.
+fn multirange(alloc: Global, part: PgType) -> Result<PgType, NoMemory>
+    requires { IsTrue (has_ranges (shape part)) }
+    ensures { IfOk result (λ t. IsBuilt (shape t)) }
+{
+    Ok(PgType::Multirange(Box::new(alloc, part)?))
+}
+
+/// Whether the piece is appended, rewritten, and read and written so.
+fn is_written(t: &PgType, piece: &[u8], field: &[u8], both: &mut Both) -> Result<bool, Fail>
+    requires { IsBuilt (shape t.now) }
+{
+    both.appended.clear();
+    both.rewritten.clear();
+    both.written.clear();
+    both.piece(t, piece)?;
+    let appended = both.appended.as_bytes();
+    let bytes = (appended, both.rewritten.as_bytes(), both.written.as_bytes());
+    Ok(bytes == (field, field, field))
+}
+
+/// Whether the piece breaks in the kind where it is read, measured and appended.
+fn breaks(t: &PgType, piece: &[u8], kind: Break, out: &mut ByteBuffer) -> bool
+    requires { IsBuilt (shape t.now) }
+{
+    let cell = RawCell::Piece(piece);
+    let found = FoundOids::new(out.alloc());
+    let appended = append_cell(t, cell, 64, &found, out);
+    let answers = (
+        fault(out.alloc(), t, cell),
+        measure_cell(t, cell, 64),
+        appended,
+    );
+    answers
+        == (
+            Some(CellFault::Break(kind)),
+            Err(MeasureFault::Break(kind)),
+            Err(AppendFault::Break(kind)),
+        )
+}
+
+/// From 1, included, to 5, excluded.
+const ONE_TO_FIVE: &[u8] = b"\0\0\0\x11\x02\0\0\0\x04\0\0\0\x01\0\0\0\x04\0\0\0\x05";
+
+/// Twice 0, excluded, which stands for an empty range.
+const TWICE_ZERO: &[u8] = b"\0\0\0\x11\0\0\0\0\x04\0\0\0\0\0\0\0\x04\0\0\0\0";
+
+#[test]
+fn ranges_are_written_in_their_canonical_form(rt: HostRuntime) -> Result<(), Fail> {
+    let alloc = rt.alloc();
+    let numbers = range(alloc, PgType::Int4)?;
+    let mut both = Both::new(alloc, FoundOids::new(alloc));
+    let table = [
+        (&ONE_TO_FIVE[4..], ONE_TO_FIVE),
+        (b"\x01", TWICE_ZERO),
+        (b"\x1f\x09", TWICE_ZERO),
+        (b"\x18", b"\0\0\0\x01\x18"),
+        (b"\xf8\x09", b"\0\0\0\x01\x18"),
+        (
+            b"\0\0\0\0\x04\0\0\0\x01\0\0\0\x63\0\0\0\x05",
+            b"\0\0\0\x11\0\0\0\0\x04\0\0\0\x01\0\0\0\x04\0\0\0\x05",
+        ),
+        (
+            b"\xec\xff\xff\xff\xff\0\0\0\x05",
+            b"\0\0\0\x09\x0c\0\0\0\x04\0\0\0\x05",
+        ),
+        (
+            b"\x12\0\0\0\x04\0\0\0\x01\x09",
+            b"\0\0\0\x09\x12\0\0\0\x04\0\0\0\x01",
+        ),
+    ];
+    for (piece, field) in &table {
+        assert!(rt; is_written(&numbers, piece, field, &mut both)?);
+    }
+    Ok(())
+}
+
+/// Twice what is not a number, excluded.
+const TWICE_NAN: &[u8] = b"\0\0\0\x19\0\0\0\0\x08\0\0\0\0\xc0\0\0\0\0\0\0\x08\0\0\0\0\xc0\0\0\0";
+
+#[test]
+fn bounds_are_written_as_their_parts_are(rt: HostRuntime) -> Result<(), Fail> {
+    let alloc = rt.alloc();
+    let mut both = Both::new(alloc, FoundOids::new(alloc));
+    let numbers = range(alloc, PgType::Numeric)?;
+    assert!(rt; is_written(&numbers, b"\x01", TWICE_NAN, &mut both)?);
+    let seven = b"\x06\0\0\0\x0b\0\x01\0\0\x40\0\0\0\0\x07\xaa\xff\xff\xff\xff\0\0\0\0\xc0\0\0\x02";
+    let field = b"\0\0\0\x1b\x06\0\0\0\x0a\0\x01\0\0\x40\0\0\0\0\x07\0\0\0\x08\0\0\0\0\xc0\0\0\0";
+    assert!(rt; is_written(&numbers, seven, field, &mut both)?);
+    let zeros = b"\0\0\0\x19\0\0\0\0\x08\0\0\0\0\0\0\0\0\0\0\0\x08\0\0\0\0\0\0\0\0";
+    let long = range(alloc, PgType::Int8)?;
+    assert!(rt; is_written(&long, b"\x01", zeros, &mut both)?);
+    let time = range(alloc, PgType::Timestamp)?;
+    assert!(rt; is_written(&time, b"\x01", zeros, &mut both)?);
+    let moment = range(alloc, PgType::Timestamptz)?;
+    assert!(rt; is_written(&moment, b"\x01", zeros, &mut both)?);
+    let day = range(alloc, PgType::Date)?;
+    assert!(rt; is_written(&day, b"\x01", TWICE_ZERO, &mut both)?);
+    Ok(())
+}
+
+#[test]
+fn ranges_break_at_their_first_fault(rt: HostRuntime) -> Result<(), Fail> {
+    let alloc = rt.alloc();
+    let mut out = ByteBuffer::new(alloc);
+    let numbers = range(alloc, PgType::Int4)?;
+    let table = [
+        b"".as_slice(),
+        b"\0\0\0\0\x06\0\0\0\x2a",
+        b"\0\xff\xff\xff\xff",
+        b"\0\xff\xff\xff\xfe",
+        b"\0\0\0\0",
+        b"\x08\0\0\0",
+        b"\0\0\0\0\x01\x09\0\0\0\x04\0\0\0\x05",
+        b"\x08\0\0\0\x04\x09\x09",
+    ];
+    for piece in &table {
+        assert!(rt; breaks(&numbers, piece, Break::Size, &mut out));
+    }
+    assert!(rt; fault(alloc, &numbers, RawCell::Null) == Some(CellFault::Break(Break::Null)));
+    let decimals = range(alloc, PgType::Numeric)?;
+    let lower = b"\0\0\0\0\x08\0\0\0\0\xd0\0\0\0\0\0\0\x01\x09";
+    assert!(rt; breaks(&decimals, lower, Break::Sign, &mut out));
+    let upper = b"\x08\0\0\0\x01\0\0\0\0\xd0\0\0\0";
+    assert!(rt; breaks(&decimals, upper, Break::Sign, &mut out));
+    assert!(rt;
+        breaks(
+            &decimals,
+            b"\0\0\0\0\x01\x09\0\0\0\x08\0\0\0\0\xd0\0\0\0",
+            Break::Size,
+            &mut out
+        )
+    );
+    assert!(rt; out.as_bytes() == b"".as_slice());
+    Ok(())
+}
+
+#[test]
+fn an_empty_range_may_be_too_long(rt: HostRuntime) -> Result<(), Fail> {
+    let alloc = rt.alloc();
+    let numbers = range(alloc, PgType::Int4)?;
+    let empty = RawCell::Piece(b"\x01");
+    let found = FoundOids::new(alloc);
+    let mut out = ByteBuffer::new(alloc);
+    let measured = (
+        measure_cell(&numbers, empty, 16),
+        measure_cell(&numbers, empty, 17),
+    );
+    assert!(rt; measured == (Err(MeasureFault::TooLong), Ok(21)));
+    let short = append_cell(&numbers, empty, 16, &found, &mut out);
+    let fits = append_cell(&numbers, empty, 17, &found, &mut out);
+    assert!(rt; (short, fits) == (Err(AppendFault::TooLong), Ok(())));
+    assert!(rt; out.as_bytes() == TWICE_ZERO);
+    let lists = multirange(alloc, PgType::Int4)?;
+    let cell = RawCell::Piece(b"\0\0\0\x01\0\0\0\x01\x01");
+    let measured = (
+        measure_cell(&lists, cell, 24),
+        measure_cell(&lists, cell, 25),
+    );
+    assert!(rt; measured == (Err(MeasureFault::TooLong), Ok(29)));
+    let short = append_cell(&lists, cell, 24, &found, &mut out);
+    assert!(rt; (short, out.as_bytes()) == (Err(AppendFault::TooLong), TWICE_ZERO));
+    Ok(())
+}
+
+#[test]
+fn multiranges_are_written_in_their_canonical_form(rt: HostRuntime) -> Result<(), Fail> {
+    let alloc = rt.alloc();
+    let lists = multirange(alloc, PgType::Int4)?;
+    let mut both = Both::new(alloc, FoundOids::new(alloc));
+    let table = [
+        (
+            b"\0\0\0\x01\0\0\0\x01\x01".as_slice(),
+            b"\0\0\0\x19\0\0\0\x01\0\0\0\x11\0\0\0\0\x04\0\0\0\0\0\0\0\x04\0\0\0\0".as_slice(),
+        ),
+        (b"\0\0\0\0\x09", b"\0\0\0\x04\0\0\0\0"),
+        (
+            b"\0\0\0\x02\0\0\0\x02\xf8\x09\0\0\0\x0a\x12\0\0\0\x04\0\0\0\x01\x09\x09",
+            b"\0\0\0\x16\0\0\0\x02\0\0\0\x01\x18\0\0\0\x09\x12\0\0\0\x04\0\0\0\x01",
+        ),
+    ];
+    for (piece, field) in &table {
+        assert!(rt; is_written(&lists, piece, field, &mut both)?);
+    }
+    Ok(())
+}
+
+#[test]
+fn multiranges_break_at_their_first_fault(rt: HostRuntime) -> Result<(), Fail> {
+    let alloc = rt.alloc();
+    let mut out = ByteBuffer::new(alloc);
+    let lists = multirange(alloc, PgType::Numeric)?;
+    let table = [
+        (b"".as_slice(), Break::Size),
+        (b"\0\0\0", Break::Size),
+        (b"\0\0\0\x01", Break::Size),
+        (b"\xff\xff\xff\xff", Break::Size),
+        (b"\0\0\0\x01\xff\xff\xff\xff", Break::Size),
+        (b"\0\0\0\x01\0\0\0\x06\0\0\0\x2a", Break::Size),
+        (
+            b"\0\0\0\x02\0\0\0\x0d\x08\0\0\0\x01\0\0\0\0\xd0\0\0\0\0\0\0\x01",
+            Break::Sign,
+        ),
+    ];
+    for (piece, kind) in &table {
+        assert!(rt; breaks(&lists, piece, *kind, &mut out));
+    }
+    assert!(rt; fault(alloc, &lists, RawCell::Null) == Some(CellFault::Break(Break::Null)));
+    assert!(rt; out.as_bytes() == b"".as_slice());
+    Ok(())
+}
+
+// The oids of int4range and int4multirange are 3904 and 4451.
+const ARRAY_OF_RANGES: &[u8] = b"\0\0\0\x2d\0\0\0\x01\0\0\0\x01\0\0\x0f\x40\0\0\0\x02\0\0\0\x01\
+    \0\0\0\x11\0\0\0\0\x04\0\0\0\0\0\0\0\x04\0\0\0\0\xff\xff\xff\xff";
+
+const ARRAY_OF_MULTIRANGES: &[u8] = b"\0\0\0\x21\0\0\0\x01\0\0\0\0\0\0\x11\x63\0\0\0\x01\0\0\0\x01\
+    \0\0\0\x09\0\0\0\x01\0\0\0\x01\x18";
+
+#[test]
+fn arrays_of_ranges_are_written_in_their_canonical_form(rt: HostRuntime) -> Result<(), Fail> {
+    let alloc = rt.alloc();
+    let mut both = Both::new(alloc, FoundOids::new(alloc));
+    let ranges = array(alloc, or_null(alloc, range(alloc, PgType::Int4)?)?)?;
+    let empty = b"\0\0\0\x01\0\0\0\x01\0\0\0\x17\0\0\0\x02\0\0\0\0\0\0\0\x01\x01\xff\xff\xff\xff";
+    assert!(rt; is_written(&ranges, empty, ARRAY_OF_RANGES, &mut both)?);
+    let lists = or_null(alloc, array(alloc, multirange(alloc, PgType::Int4)?)?)?;
+    let all = b"\0\0\0\x01\0\0\0\0\0\0\0\x17\0\0\0\x01\0\0\0\x01\0\0\0\x09\0\0\0\x01\0\0\0\x01\xf8";
+    assert!(rt; is_written(&lists, all, ARRAY_OF_MULTIRANGES, &mut both)?);
+    both.cell(&or_null(alloc, range(alloc, PgType::Date)?)?, RawCell::Null)?;
+    assert!(rt; both.appended.as_bytes().ends_with(b"\xff\xff\xff\xff"));
+    Ok(())
+}
+
+#[test]
+fn ranges_own_their_bounds(rt: HostRuntime) -> Result<(), Fail> {
+    let alloc = rt.alloc();
+    let numbers = range(alloc, PgType::Int4)?;
+    let read = read_cell(alloc, &numbers, RawCell::Piece(&ONE_TO_FIVE[4..]))?;
+    let Datum::Bounds(bounds) = read else {
+        return Err(Fail::from("no bounds"));
+    };
+    let lower = match &bounds.lower {
+        BoundDatum::Included(value) => matches!(**value, Datum::Number(1)),
+        _ => false,
+    };
+    let upper = match &bounds.upper {
+        BoundDatum::Excluded(value) => matches!(**value, Datum::Number(5)),
+        _ => false,
+    };
+    assert!(rt; (lower, upper) == (true, true));
+    let mut list = RangeList::new(alloc);
+    list.push(bounds)?;
+    list.push(RangeDatum {
+        lower: BoundDatum::Unbounded,
+        upper: BoundDatum::Unbounded,
+    })?;
+    let there = (list.len(), list.get(1).is_some(), list.get(2).is_some());
+    assert!(rt; there == (2, true, false));
+    assert!(rt; list.as_slice().len() == 2);
+    Ok(())
+}
