@@ -1,5 +1,6 @@
 -- What is known of the types of columns whose rows are copied.
-use Rattle.std.specs.Prelude.{true, List, map, refl}
+use Rattle.std.specs.Prelude.{List, map, refl, true}
+use Rattle.std.proofs.Math.Bool.{Bool-set}
 use Rattle.std.specs.List.{AllByRecursion, AllByRecursion-prop}
 use Rattle.std.proofs.Math.Bool.{Bool-set}
 use Rattle.pgw_meta.specs.Known.{Known}
