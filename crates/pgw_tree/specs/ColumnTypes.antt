@@ -2,7 +2,6 @@
 use Rattle.std.specs.Prelude.{List, map, refl, true}
 use Rattle.std.proofs.Math.Bool.{Bool-set}
 use Rattle.std.specs.List.{AllByRecursion, AllByRecursion-prop}
-use Rattle.std.proofs.Math.Bool.{Bool-set}
 use Rattle.pgw_meta.specs.Known.{Known}
 use Rattle.pgw_meta.specs.Schema.{has_ranges}
 use Rattle.pgw_meta.specs.Shape.{Shape, scalar, nullable, array, range, multirange, composite, named}
