@@ -1,5 +1,4 @@
-ghost use Rattle.std.specs.Prelude.{IfOk, IsTrue};
-ghost use Rattle.pgw_meta.specs.Schema.{has_ranges};
+ghost use Rattle.std.specs.Prelude.{IfOk};
 ghost use Rattle.pgw_meta.specs.Types.{shape};
 ghost use Rattle.pgw_cell.specs.Built.{IsBuilt};
 
@@ -34,22 +33,6 @@ pub(crate) fn array(alloc: Global, t: PgType) -> Result<PgType, NoMemory>
     ensures { IfOk result (λ t. IsBuilt (shape t)) }
 {
     Ok(PgType::Array(Box::new(alloc, t)?))
-}
-
-/// The type of ranges over it.
-fn range(alloc: Global, t: PgType) -> Result<PgType, NoMemory>
-    requires { IsTrue (has_ranges (shape t)) }
-    ensures { IfOk result (λ t. IsBuilt (shape t)) }
-{
-    Ok(PgType::Range(Box::new(alloc, t)?))
-}
-
-/// The type of multiranges over it.
-fn multirange(alloc: Global, t: PgType) -> Result<PgType, NoMemory>
-    requires { IsTrue (has_ranges (shape t)) }
-    ensures { IfOk result (λ t. IsBuilt (shape t)) }
-{
-    Ok(PgType::Multirange(Box::new(alloc, t)?))
 }
 
 /// What is measured of a piece, at a limit of 16 bytes.
@@ -340,84 +323,6 @@ fn arrays_pass_as_they_stand(rt: HostRuntime) -> Result<(), Fail> {
         texts.behind_field(32, longer).is_some(),
     ];
     assert!(rt; passes == [true, false, false, true, false, false]);
-    Ok(())
-}
-
-// Each range as its flags and its bounds with their lengths: empty ones, whose bounds exclude 0 and what is not a number; one
-// from 1, included, to 5, excluded; one without bounds; and one from 7 on. Then multiranges, with the count of their ranges: of
-// none, and of an empty one. Last an array of a null and a range without bounds.
-const RANGES: &[u8] = b"\0\0\0\x11\0\0\0\0\x04\0\0\0\0\0\0\0\x04\0\0\0\0\
-    \0\0\0\x19\0\0\0\0\x08\0\0\0\0\xc0\0\0\0\0\0\0\x08\0\0\0\0\xc0\0\0\0\
-    \0\0\0\x11\x02\0\0\0\x04\0\0\0\x01\0\0\0\x04\0\0\0\x05\
-    \0\0\0\x01\x18\
-    \0\0\0\x0d\x12\0\0\0\x08\0\0\0\0\0\0\0\x07\
-    \0\0\0\x04\0\0\0\0\
-    \0\0\0\x19\0\0\0\x01\0\0\0\x11\0\0\0\0\x04\0\0\0\0\0\0\0\x04\0\0\0\0\
-    \0\0\0\x1d\0\0\0\x01\0\0\0\x01\0\0\x0f\x40\0\0\0\x02\0\0\0\x01\xff\xff\xff\xff\0\0\0\x01\x18";
-
-#[test]
-fn ranges_are_written_in_their_canonical_form(rt: HostRuntime) -> Result<(), Fail> {
-    let alloc = rt.alloc();
-    let mut both = Both {
-        found: FoundOids::new(alloc),
-        appended: ByteBuffer::new(alloc),
-        rewritten: ByteBuffer::new(alloc),
-        written: ByteBuffer::new(alloc),
-    };
-    both.piece(&range(alloc, PgType::Int4)?, b"\x01\xaa")?;
-    both.piece(&range(alloc, PgType::Numeric)?, b"\x01")?;
-    let from_one = b"\xe2\0\0\0\x04\0\0\0\x01\0\0\0\x63\0\0\0\x05";
-    both.piece(&range(alloc, PgType::Date)?, from_one)?;
-    both.piece(
-        &or_null(alloc, range(alloc, PgType::Timestamp)?)?,
-        b"\x1e\xaa",
-    )?;
-    both.piece(
-        &range(alloc, PgType::Int8)?,
-        b"\x12\0\0\0\x08\0\0\0\0\0\0\0\x07\xaa",
-    )?;
-    both.piece(&multirange(alloc, PgType::Timestamptz)?, b"\0\0\0\0\xaa")?;
-    both.piece(
-        &multirange(alloc, PgType::Int4)?,
-        b"\0\0\0\x01\0\0\0\x01\x01",
-    )?;
-    let ranges = array(alloc, or_null(alloc, range(alloc, PgType::Int4)?)?)?;
-    let null_and_all =
-        b"\0\0\0\x01\0\0\0\x07\0\0\0\0\0\0\0\x02\0\0\0\0\xff\xff\xff\xff\0\0\0\x01\xf8";
-    both.piece(&ranges, null_and_all)?;
-    let appended = both.appended.as_bytes();
-    let bytes = (appended, both.rewritten.as_bytes(), both.written.as_bytes());
-    assert!(rt; bytes == (RANGES, RANGES, RANGES));
-    Ok(())
-}
-
-#[test]
-fn ranges_break_at_their_first_fault(rt: HostRuntime) -> Result<(), Fail> {
-    let alloc = rt.alloc();
-    let numbers = range(alloc, PgType::Int4)?;
-    let digits = range(alloc, PgType::Numeric)?;
-    let many = multirange(alloc, PgType::Int4)?;
-    let sign = b"\x12\0\0\0\x08\0\0\0\0\xd0\0\0\0";
-    let faults = [
-        fault(alloc, &numbers, RawCell::Piece(b"")),
-        fault(alloc, &numbers, RawCell::Piece(b"\0\xff\xff\xff\xff")),
-        fault(alloc, &numbers, RawCell::Piece(b"\x02\0\0\0\x04\0\0\0")),
-        fault(alloc, &numbers, RawCell::Piece(b"\x08\0\0\0\x03\0\0\0")),
-        fault(alloc, &numbers, RawCell::Piece(b"\x08\0\0\0")),
-        fault(alloc, &digits, RawCell::Piece(sign)),
-        fault(alloc, &numbers, RawCell::Null),
-        fault(
-            alloc,
-            &many,
-            RawCell::Piece(b"\xff\xff\xff\xff\0\0\0\x01\x18"),
-        ),
-        fault(alloc, &many, RawCell::Piece(b"\0\0\0\x01\xff\xff\xff\xff")),
-        fault(alloc, &many, RawCell::Piece(b"\0\0\0\x01\0\0\0\x01\x18")),
-    ];
-    let size = Some(CellFault::Break(Break::Size));
-    let sign = Some(CellFault::Break(Break::Sign));
-    let null = Some(CellFault::Break(Break::Null));
-    assert!(rt; faults == [size, size, size, size, size, sign, null, size, size, None]);
     Ok(())
 }
 
