@@ -1,4 +1,4 @@
-ghost use Rattle.std.specs.Prelude.{IfOk, IsTrue};
+ghost use Rattle.std.specs.Prelude.{◌≤◌, IfOk, IsTrue};
 ghost use Rattle.pgw_meta.specs.Schema.{has_ranges};
 ghost use Rattle.pgw_meta.specs.Types.{shape};
 ghost use Rattle.pgw_cell.specs.Built.{IsBuilt};
@@ -101,24 +101,35 @@ fn ranges_are_written_in_their_canonical_form(rt: HostRuntime) -> Result<(), Fai
 /// Twice what is not a number, excluded.
 const TWICE_NAN: &[u8] = b"\0\0\0\x19\0\0\0\0\x08\0\0\0\0\xc0\0\0\0\0\0\0\x08\0\0\0\0\xc0\0\0\0";
 
+/// Whether the field is appended, rewritten and written of an empty range over the part.
+fn empty_is_written(part: PgType, field: &[u8], both: &mut Both) -> Result<bool, Fail>
+    requires { IsTrue (has_ranges (shape part)) }
+{
+    let t = range(both.written.alloc(), part)?;
+    is_written(&t, b"\x01", field, both)
+}
+
+#[test]
+fn an_empty_range_excludes_the_default_of_its_part(rt: HostRuntime) -> Result<(), Fail> {
+    let alloc = rt.alloc();
+    let mut both = Both::new(alloc, FoundOids::new(alloc));
+    let zeros = b"\0\0\0\x19\0\0\0\0\x08\0\0\0\0\0\0\0\0\0\0\0\x08\0\0\0\0\0\0\0\0";
+    assert!(rt; empty_is_written(PgType::Numeric, TWICE_NAN, &mut both)?);
+    assert!(rt; empty_is_written(PgType::Int8, zeros, &mut both)?);
+    assert!(rt; empty_is_written(PgType::Timestamp, zeros, &mut both)?);
+    assert!(rt; empty_is_written(PgType::Timestamptz, zeros, &mut both)?);
+    assert!(rt; empty_is_written(PgType::Date, TWICE_ZERO, &mut both)?);
+    Ok(())
+}
+
 #[test]
 fn bounds_are_written_as_their_parts_are(rt: HostRuntime) -> Result<(), Fail> {
     let alloc = rt.alloc();
     let mut both = Both::new(alloc, FoundOids::new(alloc));
     let numbers = range(alloc, PgType::Numeric)?;
-    assert!(rt; is_written(&numbers, b"\x01", TWICE_NAN, &mut both)?);
     let seven = b"\x06\0\0\0\x0b\0\x01\0\0\x40\0\0\0\0\x07\xaa\xff\xff\xff\xff\0\0\0\0\xc0\0\0\x02";
     let field = b"\0\0\0\x1b\x06\0\0\0\x0a\0\x01\0\0\x40\0\0\0\0\x07\0\0\0\x08\0\0\0\0\xc0\0\0\0";
     assert!(rt; is_written(&numbers, seven, field, &mut both)?);
-    let zeros = b"\0\0\0\x19\0\0\0\0\x08\0\0\0\0\0\0\0\0\0\0\0\x08\0\0\0\0\0\0\0\0";
-    let long = range(alloc, PgType::Int8)?;
-    assert!(rt; is_written(&long, b"\x01", zeros, &mut both)?);
-    let time = range(alloc, PgType::Timestamp)?;
-    assert!(rt; is_written(&time, b"\x01", zeros, &mut both)?);
-    let moment = range(alloc, PgType::Timestamptz)?;
-    assert!(rt; is_written(&moment, b"\x01", zeros, &mut both)?);
-    let day = range(alloc, PgType::Date)?;
-    assert!(rt; is_written(&day, b"\x01", TWICE_ZERO, &mut both)?);
     Ok(())
 }
 
@@ -158,31 +169,34 @@ fn ranges_break_at_their_first_fault(rt: HostRuntime) -> Result<(), Fail> {
     Ok(())
 }
 
+/// What is answered of the cell at a limit, by measuring it and by appending its canonical field.
+fn at_limit(
+    t: &PgType,
+    piece: &[u8],
+    field_max: u32,
+    out: &mut ByteBuffer,
+) -> (Result<usize, MeasureFault>, Result<(), AppendFault>)
+    requires built { IsBuilt (shape t.now) }
+    requires max { field_max ≤ 2147483647 }
+{
+    let cell = RawCell::Piece(piece);
+    let found = FoundOids::new(out.alloc());
+    let measured = measure_cell(t, cell, field_max);
+    (measured, append_cell(t, cell, field_max, &found, out))
+}
+
 #[test]
 fn an_empty_range_may_be_too_long(rt: HostRuntime) -> Result<(), Fail> {
     let alloc = rt.alloc();
-    let numbers = range(alloc, PgType::Int4)?;
-    let empty = RawCell::Piece(b"\x01");
-    let found = FoundOids::new(alloc);
     let mut out = ByteBuffer::new(alloc);
-    let measured = (
-        measure_cell(&numbers, empty, 16),
-        measure_cell(&numbers, empty, 17),
-    );
-    assert!(rt; measured == (Err(MeasureFault::TooLong), Ok(21)));
-    let short = append_cell(&numbers, empty, 16, &found, &mut out);
-    let fits = append_cell(&numbers, empty, 17, &found, &mut out);
-    assert!(rt; (short, fits) == (Err(AppendFault::TooLong), Ok(())));
+    let long = (Err(MeasureFault::TooLong), Err(AppendFault::TooLong));
+    let numbers = range(alloc, PgType::Int4)?;
+    assert!(rt; at_limit(&numbers, b"\x01", 16, &mut out) == long);
+    assert!(rt; at_limit(&numbers, b"\x01", 17, &mut out) == (Ok(21), Ok(())));
     assert!(rt; out.as_bytes() == TWICE_ZERO);
     let lists = multirange(alloc, PgType::Int4)?;
-    let cell = RawCell::Piece(b"\0\0\0\x01\0\0\0\x01\x01");
-    let measured = (
-        measure_cell(&lists, cell, 24),
-        measure_cell(&lists, cell, 25),
-    );
-    assert!(rt; measured == (Err(MeasureFault::TooLong), Ok(29)));
-    let short = append_cell(&lists, cell, 24, &found, &mut out);
-    assert!(rt; (short, out.as_bytes()) == (Err(AppendFault::TooLong), TWICE_ZERO));
+    assert!(rt; at_limit(&lists, b"\0\0\0\x01\0\0\0\x01\x01", 24, &mut out) == long);
+    assert!(rt; at_limit(&lists, b"\0\0\0\x01\0\0\0\x01\x01", 25, &mut out) == (Ok(29), Ok(())));
     Ok(())
 }
 
