@@ -73,28 +73,32 @@ fn ranges_are_written_in_their_canonical_form(rt: HostRuntime) -> Result<(), Fai
     let alloc = rt.alloc();
     let numbers = range(alloc, PgType::Int4)?;
     let mut both = Both::new(alloc, FoundOids::new(alloc));
-    let table = [
-        (&ONE_TO_FIVE[4..], ONE_TO_FIVE),
-        (b"\x01", TWICE_ZERO),
-        (b"\x1f\x09", TWICE_ZERO),
-        (b"\x18", b"\0\0\0\x01\x18"),
-        (b"\xf8\x09", b"\0\0\0\x01\x18"),
-        (
-            b"\0\0\0\0\x04\0\0\0\x01\0\0\0\x63\0\0\0\x05",
-            b"\0\0\0\x11\0\0\0\0\x04\0\0\0\x01\0\0\0\x04\0\0\0\x05",
-        ),
-        (
+    let all = b"\0\0\0\x01\x18";
+    let states_99 = b"\0\0\0\0\x04\0\0\0\x01\0\0\0\x63\0\0\0\x05";
+    let one_to_five = b"\0\0\0\x11\0\0\0\0\x04\0\0\0\x01\0\0\0\x04\0\0\0\x05";
+    let up_to_five = b"\0\0\0\x09\x0c\0\0\0\x04\0\0\0\x05";
+    let from_one = b"\0\0\0\x09\x12\0\0\0\x04\0\0\0\x01";
+    let written = [
+        is_written(&numbers, &ONE_TO_FIVE[4..], ONE_TO_FIVE, &mut both)?,
+        is_written(&numbers, b"\x01", TWICE_ZERO, &mut both)?,
+        is_written(&numbers, b"\x1f\x09", TWICE_ZERO, &mut both)?,
+        is_written(&numbers, b"\x18", all, &mut both)?,
+        is_written(&numbers, b"\xf8\x09", all, &mut both)?,
+        is_written(&numbers, states_99, one_to_five, &mut both)?,
+        is_written(
+            &numbers,
             b"\xec\xff\xff\xff\xff\0\0\0\x05",
-            b"\0\0\0\x09\x0c\0\0\0\x04\0\0\0\x05",
-        ),
-        (
+            up_to_five,
+            &mut both,
+        )?,
+        is_written(
+            &numbers,
             b"\x12\0\0\0\x04\0\0\0\x01\x09",
-            b"\0\0\0\x09\x12\0\0\0\x04\0\0\0\x01",
-        ),
+            from_one,
+            &mut both,
+        )?,
     ];
-    for (piece, field) in &table {
-        assert!(rt; is_written(&numbers, piece, field, &mut both)?);
-    }
+    assert!(rt; written == [true; 8]);
     Ok(())
 }
 
@@ -138,34 +142,42 @@ fn ranges_break_at_their_first_fault(rt: HostRuntime) -> Result<(), Fail> {
     let alloc = rt.alloc();
     let mut out = ByteBuffer::new(alloc);
     let numbers = range(alloc, PgType::Int4)?;
-    let table = [
-        b"".as_slice(),
-        b"\0\0\0\0\x06\0\0\0\x2a",
-        b"\0\xff\xff\xff\xff",
-        b"\0\xff\xff\xff\xfe",
-        b"\0\0\0\0",
-        b"\x08\0\0\0",
-        b"\0\0\0\0\x01\x09\0\0\0\x04\0\0\0\x05",
-        b"\x08\0\0\0\x04\x09\x09",
-    ];
-    for piece in &table {
-        assert!(rt; breaks(&numbers, piece, Break::Size, &mut out));
-    }
-    assert!(rt; fault(alloc, &numbers, RawCell::Null) == Some(CellFault::Break(Break::Null)));
-    let decimals = range(alloc, PgType::Numeric)?;
-    let lower = b"\0\0\0\0\x08\0\0\0\0\xd0\0\0\0\0\0\0\x01\x09";
-    assert!(rt; breaks(&decimals, lower, Break::Sign, &mut out));
-    let upper = b"\x08\0\0\0\x01\0\0\0\0\xd0\0\0\0";
-    assert!(rt; breaks(&decimals, upper, Break::Sign, &mut out));
-    assert!(rt;
+    let size = Break::Size;
+    let broken = [
+        breaks(&numbers, b"", size, &mut out),
+        breaks(&numbers, b"\0\0\0\0\x06\0\0\0\x2a", size, &mut out),
+        breaks(&numbers, b"\0\xff\xff\xff\xff", size, &mut out),
+        breaks(&numbers, b"\0\xff\xff\xff\xfe", size, &mut out),
+        breaks(&numbers, b"\0\0\0\0", size, &mut out),
+        breaks(&numbers, b"\x08\0\0\0", size, &mut out),
         breaks(
-            &decimals,
-            b"\0\0\0\0\x01\x09\0\0\0\x08\0\0\0\0\xd0\0\0\0",
-            Break::Size,
-            &mut out
-        )
-    );
+            &numbers,
+            b"\0\0\0\0\x01\x09\0\0\0\x04\0\0\0\x05",
+            size,
+            &mut out,
+        ),
+        breaks(&numbers, b"\x08\0\0\0\x04\x09\x09", size, &mut out),
+    ];
+    assert!(rt; broken == [true; 8]);
+    assert!(rt; fault(alloc, &numbers, RawCell::Null) == Some(CellFault::Break(Break::Null)));
     assert!(rt; out.as_bytes() == b"".as_slice());
+    Ok(())
+}
+
+#[test]
+fn bounds_break_as_their_parts_do(rt: HostRuntime) -> Result<(), Fail> {
+    let alloc = rt.alloc();
+    let mut out = ByteBuffer::new(alloc);
+    let numbers = range(alloc, PgType::Numeric)?;
+    let lower = b"\0\0\0\0\x08\0\0\0\0\xd0\0\0\0\0\0\0\x01\x09";
+    let upper = b"\x08\0\0\0\x01\0\0\0\0\xd0\0\0\0";
+    let both = b"\0\0\0\0\x01\x09\0\0\0\x08\0\0\0\0\xd0\0\0\0";
+    let broken = [
+        breaks(&numbers, lower, Break::Sign, &mut out),
+        breaks(&numbers, upper, Break::Sign, &mut out),
+        breaks(&numbers, both, Break::Size, &mut out),
+    ];
+    assert!(rt; broken == [true; 3]);
     Ok(())
 }
 
@@ -205,20 +217,15 @@ fn multiranges_are_written_in_their_canonical_form(rt: HostRuntime) -> Result<()
     let alloc = rt.alloc();
     let lists = multirange(alloc, PgType::Int4)?;
     let mut both = Both::new(alloc, FoundOids::new(alloc));
-    let table = [
-        (
-            b"\0\0\0\x01\0\0\0\x01\x01".as_slice(),
-            b"\0\0\0\x19\0\0\0\x01\0\0\0\x11\0\0\0\0\x04\0\0\0\0\0\0\0\x04\0\0\0\0".as_slice(),
-        ),
-        (b"\0\0\0\0\x09", b"\0\0\0\x04\0\0\0\0"),
-        (
-            b"\0\0\0\x02\0\0\0\x02\xf8\x09\0\0\0\x0a\x12\0\0\0\x04\0\0\0\x01\x09\x09",
-            b"\0\0\0\x16\0\0\0\x02\0\0\0\x01\x18\0\0\0\x09\x12\0\0\0\x04\0\0\0\x01",
-        ),
+    let one = b"\0\0\0\x19\0\0\0\x01\0\0\0\x11\0\0\0\0\x04\0\0\0\0\0\0\0\x04\0\0\0\0";
+    let longer = b"\0\0\0\x02\0\0\0\x02\xf8\x09\0\0\0\x0a\x12\0\0\0\x04\0\0\0\x01\x09\x09";
+    let two = b"\0\0\0\x16\0\0\0\x02\0\0\0\x01\x18\0\0\0\x09\x12\0\0\0\x04\0\0\0\x01";
+    let written = [
+        is_written(&lists, b"\0\0\0\x01\0\0\0\x01\x01", one, &mut both)?,
+        is_written(&lists, b"\0\0\0\0\x09", b"\0\0\0\x04\0\0\0\0", &mut both)?,
+        is_written(&lists, longer, two, &mut both)?,
     ];
-    for (piece, field) in &table {
-        assert!(rt; is_written(&lists, piece, field, &mut both)?);
-    }
+    assert!(rt; written == [true; 3]);
     Ok(())
 }
 
@@ -227,23 +234,19 @@ fn multiranges_break_at_their_first_fault(rt: HostRuntime) -> Result<(), Fail> {
     let alloc = rt.alloc();
     let mut out = ByteBuffer::new(alloc);
     let lists = multirange(alloc, PgType::Numeric)?;
-    let table = [
-        (b"".as_slice(), Break::Size),
-        (b"\0\0\0", Break::Size),
-        (b"\0\0\0\x01", Break::Size),
-        (b"\xff\xff\xff\xff", Break::Size),
-        (b"\0\0\0\x01\xff\xff\xff\xff", Break::Size),
-        (b"\0\0\0\x01\0\0\0\x06\0\0\0\x2a", Break::Size),
-        (
-            b"\0\0\0\x02\0\0\0\x0d\x08\0\0\0\x01\0\0\0\0\xd0\0\0\0\0\0\0\x01",
-            Break::Sign,
-        ),
+    let size = Break::Size;
+    let sign = b"\0\0\0\x02\0\0\0\x0d\x08\0\0\0\x01\0\0\0\0\xd0\0\0\0\0\0\0\x01";
+    let broken = [
+        breaks(&lists, b"", size, &mut out),
+        breaks(&lists, b"\0\0\0", size, &mut out),
+        breaks(&lists, b"\0\0\0\x01", size, &mut out),
+        breaks(&lists, b"\xff\xff\xff\xff", size, &mut out),
+        breaks(&lists, b"\0\0\0\x01\xff\xff\xff\xff", size, &mut out),
+        breaks(&lists, b"\0\0\0\x01\0\0\0\x06\0\0\0\x2a", size, &mut out),
+        breaks(&lists, sign, Break::Sign, &mut out),
     ];
-    for (piece, kind) in &table {
-        assert!(rt; breaks(&lists, piece, *kind, &mut out));
-    }
+    assert!(rt; broken == [true; 7]);
     assert!(rt; fault(alloc, &lists, RawCell::Null) == Some(CellFault::Break(Break::Null)));
-    assert!(rt; out.as_bytes() == b"".as_slice());
     Ok(())
 }
 
