@@ -195,10 +195,7 @@ fn what_is_no_multirange_is_refused(rt: HostRuntime) {
             b"\0\0\0\x01\0\0\0\x06\0\0\0\x2a",
             SqlError::ElementBytes { want: 6, have: 4 },
         ),
-        (
-            b"\0\0\0\x01\xff\xff\xff\xff",
-            SqlError::NegativeSize(-1),
-        ),
+        (b"\0\0\0\x01\xff\xff\xff\xff", SqlError::NegativeSize(-1)),
         (b"\0\0\0\x01\0\0\0\0", SqlError::ShortBuffer),
         (
             b"\0\0\0\x01\0\0\0\x06\x08\0\0\0\x04\x09",
