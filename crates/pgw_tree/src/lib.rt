@@ -21,7 +21,7 @@ pub use fault::CopyFault;
 pub use limits::{FIELD_MAX, Limits};
 pub use pgw_cell::{
     AppendFault, BoundDatum, ByteList, CellFault, Datum, DatumList, DigitList, MeasureFault,
-    RangeDatum, RangeList, WriteCellFault, append_cell, laws, measure_cell, read_cell, rewrite_cell,
-    write_cell,
+    RangeDatum, RangeList, WriteCellFault, append_cell, laws, measure_cell, read_cell,
+    rewrite_cell, write_cell,
 };
 pub use stream::{Copied, recopy};

@@ -5,8 +5,8 @@ pub use pgw_nested::sql_types::{Array, Multirange, Nullable, Range};
 pub use pgw_numeric::sql_types::Numeric;
 pub use pgw_scalar::sql_types::{
     BigInt, BigSerial, Binary, Bool, Bpchar, Bytea, CChar, Cidr, Citext, Inet, Int2, Int4, Int8,
-    Integer, MacAddr, MacAddr8, Macaddr, Macaddr8, Money, Oid, PgLsn, Serial, SmallInt, SmallSerial,
-    Text, Uuid, VarChar,
+    Integer, MacAddr, MacAddr8, Macaddr, Macaddr8, Money, Oid, PgLsn, Serial, SmallInt,
+    SmallSerial, Text, Uuid, VarChar,
 };
 pub use pgw_time::sql_types::{Date, Interval, Time, Timestamp, Timestamptz};
 
