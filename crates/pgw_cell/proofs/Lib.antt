@@ -26,3 +26,4 @@ pub mod ReadRanges
 pub mod WroteCells
 pub mod WorkedCells
 pub mod WorkedArrays
+pub mod WorkedRanges

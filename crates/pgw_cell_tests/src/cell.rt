@@ -1,5 +1,4 @@
-ghost use Rattle.std.specs.Prelude.{IfOk, IsTrue};
-ghost use Rattle.pgw_meta.specs.Schema.{has_ranges};
+ghost use Rattle.std.specs.Prelude.{IfOk};
 ghost use Rattle.pgw_meta.specs.Types.{shape};
 ghost use Rattle.pgw_cell.specs.Built.{IsBuilt};
 
@@ -21,7 +20,7 @@ fn citext(alloc: Global) -> Result<PgType, NoMemory>
 }
 
 /// The type or null.
-fn or_null(alloc: Global, t: PgType) -> Result<PgType, NoMemory>
+pub(crate) fn or_null(alloc: Global, t: PgType) -> Result<PgType, NoMemory>
     requires { IsBuilt (shape t) }
     ensures { IfOk result (λ t. IsBuilt (shape t)) }
 {
@@ -29,27 +28,11 @@ fn or_null(alloc: Global, t: PgType) -> Result<PgType, NoMemory>
 }
 
 /// The type of its arrays.
-fn array(alloc: Global, t: PgType) -> Result<PgType, NoMemory>
+pub(crate) fn array(alloc: Global, t: PgType) -> Result<PgType, NoMemory>
     requires { IsBuilt (shape t) }
     ensures { IfOk result (λ t. IsBuilt (shape t)) }
 {
     Ok(PgType::Array(Box::new(alloc, t)?))
-}
-
-/// The type of ranges over it.
-fn range(alloc: Global, t: PgType) -> Result<PgType, NoMemory>
-    requires { IsTrue (has_ranges (shape t)) }
-    ensures { IfOk result (λ t. IsBuilt (shape t)) }
-{
-    Ok(PgType::Range(Box::new(alloc, t)?))
-}
-
-/// The type of multiranges over it.
-fn multirange(alloc: Global, t: PgType) -> Result<PgType, NoMemory>
-    requires { IsTrue (has_ranges (shape t)) }
-    ensures { IfOk result (λ t. IsBuilt (shape t)) }
-{
-    Ok(PgType::Multirange(Box::new(alloc, t)?))
 }
 
 /// What is measured of a piece, at a limit of 16 bytes.
@@ -131,7 +114,7 @@ fn pieces_of_several_parts_are_measured(rt: HostRuntime) {
 }
 
 /// Why the cell is not read.
-fn fault(alloc: Global, t: &PgType, cell: RawCell<'_>) -> Option<CellFault>
+pub(crate) fn fault(alloc: Global, t: &PgType, cell: RawCell<'_>) -> Option<CellFault>
     requires { IsBuilt (shape t.now) }
 {
     read_cell(alloc, t, cell).err()
@@ -168,15 +151,25 @@ fn cells_break_where_they_are_read(rt: HostRuntime) -> Result<(), Fail> {
 
 /// Buffers for the canonical fields of cells, appended and rewritten, and for those of the values that they spell.
 #[derive(Drop)]
-struct Both {
-    found: FoundOids,
-    appended: ByteBuffer,
-    rewritten: ByteBuffer,
-    written: ByteBuffer,
+pub(crate) struct Both {
+    pub(crate) found: FoundOids,
+    pub(crate) appended: ByteBuffer,
+    pub(crate) rewritten: ByteBuffer,
+    pub(crate) written: ByteBuffer,
 }
 
 impl Both {
-    fn cell(&mut self, t: &PgType, cell: RawCell<'_>) -> Result<(), Fail>
+    /// Empty buffers, where the oids of named types are these.
+    pub(crate) fn new(alloc: Global, found: FoundOids) -> Both {
+        Both {
+            found,
+            appended: ByteBuffer::new(alloc),
+            rewritten: ByteBuffer::new(alloc),
+            written: ByteBuffer::new(alloc),
+        }
+    }
+
+    pub(crate) fn cell(&mut self, t: &PgType, cell: RawCell<'_>) -> Result<(), Fail>
         requires { IsBuilt (shape t.now) }
     {
         let len = measure_cell(t, cell, 64)?;
@@ -189,7 +182,7 @@ impl Both {
         Ok(())
     }
 
-    fn piece(&mut self, t: &PgType, piece: &[u8]) -> Result<(), Fail>
+    pub(crate) fn piece(&mut self, t: &PgType, piece: &[u8]) -> Result<(), Fail>
         requires { IsBuilt (shape t.now) }
     {
         self.cell(t, RawCell::Piece(piece))
@@ -208,12 +201,7 @@ const PARTS: &[u8] = b"\0\0\0\x08\x02\x18\0\x04\xc0\xa8\0\x01\
 #[test]
 fn cells_of_several_parts_are_written_in_their_canonical_form(rt: HostRuntime) -> Result<(), Fail> {
     let alloc = rt.alloc();
-    let mut both = Both {
-        found: FoundOids::new(alloc),
-        appended: ByteBuffer::new(alloc),
-        rewritten: ByteBuffer::new(alloc),
-        written: ByteBuffer::new(alloc),
-    };
+    let mut both = Both::new(alloc, FoundOids::new(alloc));
     both.piece(&PgType::Inet, HOST)?;
     both.piece(&PgType::Interval, b"0123456789abcdef+")?;
     both.piece(&PgType::Numeric, b"\0\x01\xff\xff\x40\0\0\x04\0\x07\xaa")?;
@@ -228,12 +216,7 @@ fn cells_of_several_parts_are_written_in_their_canonical_form(rt: HostRuntime) -
 fn cells_are_written_in_their_canonical_form(rt: HostRuntime) -> Result<(), Fail> {
     let alloc = rt.alloc();
     let text = PgType::Nullable(Box::new(alloc, PgType::Text)?);
-    let mut both = Both {
-        found: FoundOids::new(alloc),
-        appended: ByteBuffer::new(alloc),
-        rewritten: ByteBuffer::new(alloc),
-        written: ByteBuffer::new(alloc),
-    };
+    let mut both = Both::new(alloc, FoundOids::new(alloc));
     both.piece(&PgType::Bool, b"\x02\xaa\xbb")?;
     both.piece(&PgType::Char, b"A\xff")?;
     both.piece(&PgType::Int2, b"\xff\xfe")?;
@@ -267,12 +250,7 @@ fn arrays_are_written_in_their_canonical_form(rt: HostRuntime) -> Result<(), Fai
         oid: 7,
         array_oid: 8,
     })?;
-    let mut both = Both {
-        found,
-        appended: ByteBuffer::new(alloc),
-        rewritten: ByteBuffer::new(alloc),
-        written: ByteBuffer::new(alloc),
-    };
+    let mut both = Both::new(alloc, found);
     let numbers = array(alloc, or_null(alloc, PgType::Int4)?)?;
     let with_null = b"\0\0\0\x01\0\0\0\x07\0\0\0\x63\0\0\0\x02\0\0\0\0\
         \0\0\0\x04\0\0\0\x2a\xff\xff\xff\xff\x09";
@@ -345,84 +323,6 @@ fn arrays_pass_as_they_stand(rt: HostRuntime) -> Result<(), Fail> {
         texts.behind_field(32, longer).is_some(),
     ];
     assert!(rt; passes == [true, false, false, true, false, false]);
-    Ok(())
-}
-
-// Each range as its flags and its bounds with their lengths: empty ones, whose bounds exclude 0 and what is not a number; one
-// from 1, included, to 5, excluded; one without bounds; and one from 7 on. Then multiranges, with the count of their ranges: of
-// none, and of an empty one. Last an array of a null and a range without bounds.
-const RANGES: &[u8] = b"\0\0\0\x11\0\0\0\0\x04\0\0\0\0\0\0\0\x04\0\0\0\0\
-    \0\0\0\x19\0\0\0\0\x08\0\0\0\0\xc0\0\0\0\0\0\0\x08\0\0\0\0\xc0\0\0\0\
-    \0\0\0\x11\x02\0\0\0\x04\0\0\0\x01\0\0\0\x04\0\0\0\x05\
-    \0\0\0\x01\x18\
-    \0\0\0\x0d\x12\0\0\0\x08\0\0\0\0\0\0\0\x07\
-    \0\0\0\x04\0\0\0\0\
-    \0\0\0\x19\0\0\0\x01\0\0\0\x11\0\0\0\0\x04\0\0\0\0\0\0\0\x04\0\0\0\0\
-    \0\0\0\x1d\0\0\0\x01\0\0\0\x01\0\0\x0f\x40\0\0\0\x02\0\0\0\x01\xff\xff\xff\xff\0\0\0\x01\x18";
-
-#[test]
-fn ranges_are_written_in_their_canonical_form(rt: HostRuntime) -> Result<(), Fail> {
-    let alloc = rt.alloc();
-    let mut both = Both {
-        found: FoundOids::new(alloc),
-        appended: ByteBuffer::new(alloc),
-        rewritten: ByteBuffer::new(alloc),
-        written: ByteBuffer::new(alloc),
-    };
-    both.piece(&range(alloc, PgType::Int4)?, b"\x01\xaa")?;
-    both.piece(&range(alloc, PgType::Numeric)?, b"\x01")?;
-    let from_one = b"\xe2\0\0\0\x04\0\0\0\x01\0\0\0\x63\0\0\0\x05";
-    both.piece(&range(alloc, PgType::Date)?, from_one)?;
-    both.piece(
-        &or_null(alloc, range(alloc, PgType::Timestamp)?)?,
-        b"\x1e\xaa",
-    )?;
-    both.piece(
-        &range(alloc, PgType::Int8)?,
-        b"\x12\0\0\0\x08\0\0\0\0\0\0\0\x07\xaa",
-    )?;
-    both.piece(&multirange(alloc, PgType::Timestamptz)?, b"\0\0\0\0\xaa")?;
-    both.piece(
-        &multirange(alloc, PgType::Int4)?,
-        b"\0\0\0\x01\0\0\0\x01\x01",
-    )?;
-    let ranges = array(alloc, or_null(alloc, range(alloc, PgType::Int4)?)?)?;
-    let null_and_all =
-        b"\0\0\0\x01\0\0\0\x07\0\0\0\0\0\0\0\x02\0\0\0\0\xff\xff\xff\xff\0\0\0\x01\xf8";
-    both.piece(&ranges, null_and_all)?;
-    let appended = both.appended.as_bytes();
-    let bytes = (appended, both.rewritten.as_bytes(), both.written.as_bytes());
-    assert!(rt; bytes == (RANGES, RANGES, RANGES));
-    Ok(())
-}
-
-#[test]
-fn ranges_break_at_their_first_fault(rt: HostRuntime) -> Result<(), Fail> {
-    let alloc = rt.alloc();
-    let numbers = range(alloc, PgType::Int4)?;
-    let digits = range(alloc, PgType::Numeric)?;
-    let many = multirange(alloc, PgType::Int4)?;
-    let sign = b"\x12\0\0\0\x08\0\0\0\0\xd0\0\0\0";
-    let faults = [
-        fault(alloc, &numbers, RawCell::Piece(b"")),
-        fault(alloc, &numbers, RawCell::Piece(b"\0\xff\xff\xff\xff")),
-        fault(alloc, &numbers, RawCell::Piece(b"\x02\0\0\0\x04\0\0\0")),
-        fault(alloc, &numbers, RawCell::Piece(b"\x08\0\0\0\x03\0\0\0")),
-        fault(alloc, &numbers, RawCell::Piece(b"\x08\0\0\0")),
-        fault(alloc, &digits, RawCell::Piece(sign)),
-        fault(alloc, &numbers, RawCell::Null),
-        fault(
-            alloc,
-            &many,
-            RawCell::Piece(b"\xff\xff\xff\xff\0\0\0\x01\x18"),
-        ),
-        fault(alloc, &many, RawCell::Piece(b"\0\0\0\x01\xff\xff\xff\xff")),
-        fault(alloc, &many, RawCell::Piece(b"\0\0\0\x01\0\0\0\x01\x18")),
-    ];
-    let size = Some(CellFault::Break(Break::Size));
-    let sign = Some(CellFault::Break(Break::Sign));
-    let null = Some(CellFault::Break(Break::Null));
-    assert!(rt; faults == [size, size, size, size, size, sign, null, size, size, None]);
     Ok(())
 }
 

@@ -4,3 +4,5 @@
 
 #[cfg(test)]
 mod cell;
+#[cfg(test)]
+mod range;

@@ -1,5 +1,6 @@
 //! COPY streams by the types of their columns: a stream in, and the canonical stream of the same rows out. What cells of
-//! a type are read and written as stands in `pgw_cell`, whose calls and laws are found here too.
+//! a type are read and written as stands in `pgw_cell`, whose calls and laws are found here too, and so are the markers of
+//! all types.
 #![tactic(auto)]
 
 mod append;
@@ -13,12 +14,14 @@ mod plain;
 mod respell;
 mod send_fault;
 mod shown;
+pub mod sql_types;
 mod stream;
 
 pub use fault::CopyFault;
 pub use limits::{FIELD_MAX, Limits};
 pub use pgw_cell::{
-    AppendFault, ByteList, CellFault, Datum, DatumList, DigitList, MeasureFault, WriteCellFault,
-    append_cell, laws, measure_cell, read_cell, rewrite_cell, write_cell,
+    AppendFault, BoundDatum, ByteList, CellFault, Datum, DatumList, DigitList, MeasureFault,
+    RangeDatum, RangeList, WriteCellFault, append_cell, laws, measure_cell, read_cell,
+    rewrite_cell, write_cell,
 };
 pub use stream::{Copied, recopy};

@@ -5,4 +5,6 @@
 #[cfg(test)]
 mod copy;
 #[cfg(test)]
+mod markers;
+#[cfg(test)]
 mod tree;
