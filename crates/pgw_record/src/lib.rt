@@ -1,0 +1,7 @@
+//! The codecs of records: tuples of one to eight members, each with its own type. `RecordPieces` takes a record apart. It
+//! is written by `begin_record` and `begin_component` and by the calls of `pgw_nested` that write a cell.
+#![tactic(auto)]
+
+mod record_pieces;
+
+pub use record_pieces::{RecordPiece, RecordPieces};
