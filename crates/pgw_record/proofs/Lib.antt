@@ -1,0 +1,3 @@
+pub mod WorkedRecords
+mod Refusals
+mod MembersRead

@@ -1,2 +1,4 @@
 pub mod Record
 pub mod Pieces
+pub mod Members
+pub mod Reading

@@ -2,6 +2,10 @@
 //! is written by `begin_record` and `begin_component` and by the calls of `pgw_nested` that write a cell.
 #![tactic(auto)]
 
+mod members;
+mod metadata;
+mod record;
 mod record_pieces;
+pub mod sql_types;
 
 pub use record_pieces::{RecordPiece, RecordPieces};
