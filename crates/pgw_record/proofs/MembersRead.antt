@@ -1,9 +1,10 @@
 -- A record that is read member by member.
-use Rattle.std.proofs.Common.{◌≡◌, ◌<◌, ◌+◌, ◌||◌, ℕ, Bool, true, false, IsTrue, List, ◌∷◌, ◌++◌, length, Result, Ok, Err, refl, sym, ap, ◌∙◌, arith}
+use Rattle.std.proofs.Common.{◌≡◌, ◌<◌, ◌+◌, ◌||◌, ℕ, Bool, true, false, IsTrue, List, ◌∷◌, ◌++◌, length, Option, Some, Result, Ok, Err, refl, sym, ap, subst, ◌∙◌, arith}
 use Rattle.std.specs.Int.{w32, to_be_bytes}
 use Rattle.pgw_wire.specs.Cell.{Cell}
 use Rattle.pgw_wire.specs.declared.sql_error.SqlError.{SqlError}
-use Rattle.pgw_meta.specs.Reading.{Answers, IsRefused}
+use Rattle.pgw_wire.specs.declared.value.PgValue.{PgValue}
+use Rattle.pgw_meta.specs.Reading.{Answers, IsRefused, ReadsPiece, RefusesPiece, cell_of_value}
 use Rattle.pgw_meta.proofs.Reading.{refused, refused_too}
 use Rattle.pgw_record.specs.Record.{Component, component_bytes, components_bytes, HasNoComponent, SpellsMember, no_component, cell_fails, fails_behind, RefusesMember, fails_in_front, fails_at_member, BeginsNoRecord, RefusesRecord}
 use Rattle.pgw_record.specs.Pieces.{Coming, BeginsRecord, IsNext}
@@ -62,3 +63,16 @@ module _ {A : Type 0} (Spelled : A → List Component → Type 0) (Refuse : List
   }
   record_read coming few b (Err e) h =
       refused_too (Refuse coming.rest) (RefusesRecord count Refuse bytes) memory memory e (λ r. fails_at_member coming.rest b.is r) (λ m. m) h
+
+-- what is said of the bytes of a value, of the field that it is of
+module _ {A : Type 0} (Reads : List ℕ → A → Type 0) (Refuse : List ℕ → SqlError → Type 0) (memory : Bool) where
+  abbrev Field : Cell → Result A SqlError → Type 0
+  Field cell r = Answers (ReadsPiece Reads) (RefusesPiece Refuse) memory cell r
+
+  piece_read : (bytes : List ℕ) (r : Result A SqlError) → Answers Reads Refuse memory bytes r → Field (Some bytes) r
+  piece_read bytes (Ok v) h = h
+  piece_read bytes (Err e) h = h
+
+  pub value_read : (field : Option PgValue) (value : PgValue) (bytes : List ℕ) (r : Result A SqlError) → field ≡ Some value → bytes ≡ value.raw_value.now → Answers Reads Refuse memory bytes r → Field (cell_of_value field) r
+  value_read field value bytes r is same h =
+      subst (λ (f : Option PgValue). Field (cell_of_value f) r) (sym is) (subst (λ (x : List ℕ). Field (Some x) r) same (piece_read bytes r h))

@@ -1,13 +1,14 @@
 ghost use Rattle.std.specs.Prelude.{◌≡◌, ◌≤◌, ◌+◌, ◌||◌, ℕ, List, Bool, false};
 ghost use Rattle.pgw_wire.specs.declared.sql_error.SqlError.{SqlError as Refusal};
-ghost use Rattle.pgw_meta.specs.Reading.{Answers};
+ghost use Rattle.pgw_meta.specs.Reading.{Answers, ReadsPiece, RefusesPiece, cell_of_value};
 ghost use Rattle.pgw_record.specs.Record.{Component, SpellsMember, SpellsNone, RefusesMember, RefusesNone, RefusesRecord};
 ghost use Rattle.pgw_record.specs.Members.{AreMembers, AreRecordMembers};
 
 use crate::RecordPieces;
 use pgw_meta::FromSql;
-use pgw_meta::deserialize::Result;
+use pgw_meta::deserialize::{Result, required};
 use pgw_nested::value_of;
+use pgw_wire::PgValue;
 use std::alloc::Global;
 
 /// The members of a tuple as pairs in pairs, the last of them `()`. They are read from the components of a record in
@@ -63,12 +64,18 @@ impl<SH, ST, H: FromSql<SH>, T: Members<ST>> Members<(SH, ST)> for (H, T) {
     }
 }
 
-/// The members of a tuple, `count` in number, from the field of a record.
-pub(crate) fn read_tuple<ST, M: Members<ST>>(alloc: Global, bytes: &[u8], count: u32) -> Result<M>
+/// The members of a tuple, `count` in number, from the field of a record. `UnexpectedNull` where the field is null.
+pub(crate) fn read_tuple<ST, M: Members<ST>>(
+    alloc: Global,
+    value: Option<PgValue<'_>>,
+    count: u32,
+) -> Result<M>
     requires few { count ≤ 2147483647 }
     requires members { count ≡ M.COUNT }
-    ensures { Answers (AreRecordMembers M.spelled) (RefusesRecord M.COUNT M.refuses) M.MEMORY bytes.now result }
+    ensures { Answers (ReadsPiece (AreRecordMembers M.spelled)) (RefusesPiece (RefusesRecord M.COUNT M.refuses))
+        M.MEMORY (cell_of_value value.entry) result }
 {
-    let mut pieces = RecordPieces::new(bytes, count)?;
+    let value = required(value)?;
+    let mut pieces = RecordPieces::new(value.as_bytes(), count)?;
     M::read_members(alloc, &mut pieces)
 }

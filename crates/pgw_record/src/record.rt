@@ -4,7 +4,7 @@ ghost use Rattle.pgw_record.specs.Record.{IsRecord, SpellsMember, SpellsNone, Re
 
 use crate::members::read_tuple;
 use crate::sql_types::Record;
-use pgw_meta::deserialize::{FromSql, Result, required};
+use pgw_meta::deserialize::{FromSql, Result};
 use pgw_wire::PgValue;
 use std::alloc::Global;
 
@@ -23,12 +23,12 @@ impl<ST1, A: FromSql<ST1>> FromSql<Record<(ST1,)>> for (A,) {
     /// components, `ShortBuffer`, `ZeroOid`, `NegativeSize`, `ElementBytes` and `Surplus` as from `RecordPieces`, and what
     /// the member is refused with.
     fn from_sql(alloc: Global, value: PgValue<'_>) -> Result<(A,)> {
-        let (a, ()) = read_tuple::<(ST1, ()), (A, ())>(alloc, value.as_bytes(), 1)?;
-        Ok((a,))
+        <(A,) as FromSql<Record<(ST1,)>>>::from_nullable_sql(alloc, Some(value))
     }
 
     fn from_nullable_sql(alloc: Global, value: Option<PgValue<'_>>) -> Result<(A,)> {
-        <(A,) as FromSql<Record<(ST1,)>>>::from_sql(alloc, required(value)?)
+        let (a, ()) = read_tuple::<(ST1, ()), (A, ())>(alloc, value, 1)?;
+        Ok((a,))
     }
 }
 
@@ -42,12 +42,11 @@ impl<ST1, ST2, A: FromSql<ST1>, B: FromSql<ST2>> FromSql<Record<(ST1, ST2)>> for
     ghost MEMORY = { A.MEMORY || (B.MEMORY || false) };
 
     fn from_sql(alloc: Global, value: PgValue<'_>) -> Result<(A, B)> {
-        let (a, (b, ())) =
-            read_tuple::<(ST1, (ST2, ())), (A, (B, ()))>(alloc, value.as_bytes(), 2)?;
-        Ok((a, b))
+        <(A, B) as FromSql<Record<(ST1, ST2)>>>::from_nullable_sql(alloc, Some(value))
     }
 
     fn from_nullable_sql(alloc: Global, value: Option<PgValue<'_>>) -> Result<(A, B)> {
-        <(A, B) as FromSql<Record<(ST1, ST2)>>>::from_sql(alloc, required(value)?)
+        let (a, (b, ())) = read_tuple::<(ST1, (ST2, ())), (A, (B, ()))>(alloc, value, 2)?;
+        Ok((a, b))
     }
 }
