@@ -19,5 +19,5 @@ pub mod WorkedRanges
 pub mod Steps
 pub mod Cut
 pub mod Bounds
-mod RangeWritings
+pub mod RangeWritings
 mod RangesRead

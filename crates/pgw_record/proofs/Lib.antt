@@ -1,3 +1,4 @@
 pub mod WorkedRecords
 mod Refusals
 mod MembersRead
+mod MembersWritten

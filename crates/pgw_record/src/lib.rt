@@ -6,6 +6,8 @@ mod members;
 mod metadata;
 mod record;
 mod record_pieces;
+mod record_writing;
 pub mod sql_types;
 
 pub use record_pieces::{RecordPiece, RecordPieces};
+pub use record_writing::{begin_component, begin_record};
