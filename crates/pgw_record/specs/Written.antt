@@ -1,5 +1,5 @@
 -- What the members of a value are written as, one after the other, over what their types say of each.
-use Rattle.std.specs.Prelude.{◌≡◌, ◌⊎◌, ⊤, ℕ, List, [], ◌∷◌, length, Result, Ok, Err}
+use Rattle.std.specs.Prelude.{◌≡◌, ◌+◌, ◌⊎◌, ⊤, ℕ, List, [], ◌∷◌, length, Result, Ok, Err}
 use Rattle.pgw_wire.specs.Cell.{Cell}
 use Rattle.pgw_wire.specs.declared.is_null.IsNull.{IsNull}
 use Rattle.pgw_wire.specs.declared.is_null.IsNull.TheVariants.{Yes, No}
@@ -21,8 +21,10 @@ RefusesComponent naming writes known v e =
     ((key : Key) × (naming.oids known ≡ Err key) × IsUnknown key e)
     ⊎ ((oids : Oids) × (naming.oids known ≡ Ok oids) × IsRefusedWith (writes known) v e)
 
--- what is said of members: as which components they are written, and with which error they are refused
+-- what is said of members: how many there are, as which components they are written, and with which error they are
+-- refused
 pub record WrittenMembers : Type 1 where
+  pub count : ℕ
   pub written : List Component → Type 0
   pub refused : WriteError → Type 0
 
@@ -31,7 +33,7 @@ IsNone [] = ⊤
 IsNone (c ∷ cs) = ⊥
 
 abbrev pub no_member : WrittenMembers
-no_member = record { written = IsNone; refused = λ _. ⊥ }
+no_member = record { count = 0; written = IsNone; refused = λ _. ⊥ }
 
 -- The component in front is so, and of the others this is so.
 abbrev pub IsInFront : (Component → Type 0) → (List Component → Type 0) → List Component → Type 0
@@ -41,6 +43,7 @@ IsInFront Is Others (c ∷ cs) = Is c × Others cs
 -- A member in front of others. The first that is refused is this one or, where it is written, one behind it.
 abbrev pub member : {A : Type 0} → Naming → Writes A → Known → A → WrittenMembers → WrittenMembers
 member naming writes known v others = record {
+  count = 1 + others.count;
   written = IsInFront (IsComponentOf naming writes known v) others.written;
   refused = λ e. RefusesComponent naming writes known v e
       ⊎ ((c : Component) × IsComponentOf naming writes known v c × others.refused e);
@@ -68,12 +71,12 @@ WroteComponent naming writes known v bytes (Ok u) =
     (c : Component) × IsComponentOf naming writes known v c × (bytes ≡ component_bytes c)
 WroteComponent naming writes known v bytes (Err e) = IsWriteRefused (RefusesComponent naming writes known v) e
 
--- Members were written, so many.
-abbrev pub WroteMembers : ℕ → WrittenMembers → List ℕ → Result (Unit {0}) WriteError → Type 0
-WroteMembers count members bytes (Ok u) =
-    (components : List Component) × (length components ≡ count) × members.written components
+-- Members were written, one behind the other.
+abbrev pub WroteMembers : WrittenMembers → List ℕ → Result (Unit {0}) WriteError → Type 0
+WroteMembers members bytes (Ok u) =
+    (components : List Component) × (length components ≡ members.count) × members.written components
     × (bytes ≡ components_bytes components)
-WroteMembers count members bytes (Err e) = IsWriteRefused members.refused e
+WroteMembers members bytes (Err e) = IsWriteRefused members.refused e
 
 -- A record was written.
 abbrev pub WroteRecord : WrittenMembers → List ℕ → Result IsNull WriteError → Type 0

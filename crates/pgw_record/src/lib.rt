@@ -8,6 +8,9 @@ mod record;
 mod record_pieces;
 mod record_writing;
 pub mod sql_types;
+mod write_tuple;
+mod written_members;
 
 pub use record_pieces::{RecordPiece, RecordPieces};
 pub use record_writing::{begin_component, begin_record};
+pub use write_tuple::WriteTuple;

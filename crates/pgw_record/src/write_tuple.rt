@@ -1,0 +1,89 @@
+ghost use Rattle.std.specs.Prelude.{◌≡◌, ◌≤◌, ◌++◌, ℕ, List, Some, Err};
+ghost use Rattle.pgw_wire.specs.Outside.{HasFailed};
+ghost use Rattle.pgw_wire.specs.Output.{IsSameOutput, StartsWithin};
+ghost use Rattle.pgw_meta.specs.Known.{Known, known};
+ghost use Rattle.pgw_meta.specs.Writing.{Writes, Wrote};
+ghost use Rattle.pgw_meta.specs.declared.serialize.WriteError.TheVariants.{LookupFailed as lookup_failed};
+ghost use Rattle.pgw_record.specs.Written.{WritesRecord, member, no_member};
+
+use crate::begin_record;
+use crate::written_members::{write_1, write_2, write_3};
+use pgw_meta::serialize::{Result, ToSql};
+use pgw_meta::{HasSqlType, Pg, PgMetadataLookup};
+use pgw_wire::{IsNull, Output};
+
+/// A tuple that can be written as a record whose components have the types of `ST`, a tuple of as many markers.
+pub trait WriteTuple<ST> {
+    /// What it is written as, and each implementation states that: under what a lookup knows, the value is answered so,
+    /// with these bytes appended.
+    ghost writes: { Writes Self };
+
+    /// Appends how many members there are, in 4 bytes, and then each: the oid of its type, in 4 bytes, its length, in 4
+    /// bytes, and its bytes. A member that is null is written as the length -1. The answer is `No`. The start of the
+    /// output has to lie in its buffer.
+    ///
+    /// The first refusal in the order of these bytes is the error: of each member `UnknownType` where the key of its type
+    /// is not known, what it is refused with, and `TooMany` with more than 2147483647 bytes. `LookupFailed` comes only
+    /// where the lookup's count of faults rises. The bytes that stood before the call stand there behind it, and those
+    /// that a refused call appended are for the caller to take back. No call changes what is known.
+    fn write_tuple<L: PgMetadataLookup>(&self, out: &mut Output<'_, L>) -> Result
+        requires { StartsWithin out.old }
+        ensures wrote { (bytes : List ℕ) × (out.new.out.now.bytes ≡ out.old.out.now.bytes ++ bytes)
+            × ((k : Known) → known (L.state out.old.lookup.now) ≡ Some k → Wrote writes k self.now bytes result) }
+        ensures failed { result ≡ Err lookup_failed → HasFailed (L.state out.old.lookup.now) (L.state out.new.lookup.now) }
+        ensures same { IsSameOutput out.old out.new }
+        ensures told { (L.state out.new.lookup.now).told ≡ (L.state out.old.lookup.now).told }
+        ensures faults { (L.state out.old.lookup.now).fault_count ≤ (L.state out.new.lookup.now).fault_count };
+}
+
+impl<ST1, A: ToSql<ST1>> WriteTuple<(ST1,)> for (A,)
+where
+    Pg: HasSqlType<ST1>,
+{
+    ghost writes = { λ k v. WritesRecord (member ⟦<Pg as HasSqlType<ST1>>⟧.names A.writes k v.0 no_member) };
+
+    fn write_tuple<L: PgMetadataLookup>(&self, out: &mut Output<'_, L>) -> Result {
+        begin_record(out, 1)?;
+        if let Err(error) = write_1::<ST1, A, L>(&self.0, out) {
+            return Err(error);
+        }
+        Ok(IsNull::No)
+    }
+}
+
+impl<ST1, ST2, A: ToSql<ST1>, B: ToSql<ST2>> WriteTuple<(ST1, ST2)> for (A, B)
+where
+    Pg: HasSqlType<ST1>,
+    Pg: HasSqlType<ST2>,
+{
+    ghost writes = { λ k v. WritesRecord (member ⟦<Pg as HasSqlType<ST1>>⟧.names A.writes k v.0
+        (member ⟦<Pg as HasSqlType<ST2>>⟧.names B.writes k v.1 no_member)) };
+
+    fn write_tuple<L: PgMetadataLookup>(&self, out: &mut Output<'_, L>) -> Result {
+        begin_record(out, 2)?;
+        if let Err(error) = write_2::<ST1, ST2, A, B, L>(&self.0, &self.1, out) {
+            return Err(error);
+        }
+        Ok(IsNull::No)
+    }
+}
+
+impl<ST1, ST2, ST3, A: ToSql<ST1>, B: ToSql<ST2>, C: ToSql<ST3>> WriteTuple<(ST1, ST2, ST3)>
+    for (A, B, C)
+where
+    Pg: HasSqlType<ST1>,
+    Pg: HasSqlType<ST2>,
+    Pg: HasSqlType<ST3>,
+{
+    ghost writes = { λ k v. WritesRecord (member ⟦<Pg as HasSqlType<ST1>>⟧.names A.writes k v.0
+        (member ⟦<Pg as HasSqlType<ST2>>⟧.names B.writes k v.1
+        (member ⟦<Pg as HasSqlType<ST3>>⟧.names C.writes k v.2 no_member))) };
+
+    fn write_tuple<L: PgMetadataLookup>(&self, out: &mut Output<'_, L>) -> Result {
+        begin_record(out, 3)?;
+        if let Err(error) = write_3::<ST1, ST2, ST3, A, B, C, L>(&self.0, &self.1, &self.2, out) {
+            return Err(error);
+        }
+        Ok(IsNull::No)
+    }
+}
