@@ -1,11 +1,12 @@
 -- The bytes of a record that is written member by member.
-use Rattle.std.proofs.Common.{◌≡◌, ◌⊎◌, inl, inr, ℕ, ◌+◌, List, [], ◌∷◌, ◌++◌, length, Some, Result, Ok, Err, refl, sym, ap, ◌∙◌, append_assoc, append-nil, arith}
+use Rattle.std.proofs.Common.{◌≡◌, ◌⊎◌, inl, inr, ℕ, ◌+◌, List, [], ◌∷◌, ◌++◌, length, Some, Result, Ok, Err, refl, sym, ap, subst, ◌∙◌, append_assoc, append-nil, arith}
 use Rattle.std.specs.Int.{w32, to_be_bytes}
 use Rattle.pgw_wire.specs.declared.is_null.IsNull.TheVariants.{No}
 use Rattle.pgw_meta.specs.Known.{Known, Knowledge, Oids}
 use Rattle.pgw_meta.specs.Naming.{Naming}
-use Rattle.pgw_meta.specs.Writing.{Writes}
+use Rattle.pgw_meta.specs.Writing.{Writes, IsWriteRefused}
 use Rattle.pgw_meta.specs.declared.serialize.WriteError.{WriteError}
+use Rattle.pgw_meta.specs.declared.serialize.WriteError.TheVariants.{NoMemory}
 use Rattle.pgw_nested.specs.Written.{IsRefusedWith}
 use Rattle.pgw_nested.proofs.Writings.{refused_for}
 use Rattle.pgw_record.specs.Record.{Component, component_bytes, components_bytes}
@@ -55,3 +56,7 @@ component_alone naming writes v old new told u w a =
 pub record_wrote : (members : WrittenMembers) (count : ℕ) (bytes : List ℕ) (u : Unit {0}) → count ≡ members.count → WroteMembers members bytes (Ok u) → WritesRecord members (Ok No) (to_be_bytes w32 count ++ bytes)
 record_wrote members count bytes u same h =
     (h.0, h.2, ap (λ (x : List ℕ). to_be_bytes w32 count ++ x) h.3 ∙ ap (λ (n : ℕ). to_be_bytes w32 n ++ components_bytes h.0) (same ∙ sym h.1))
+
+-- Want of memory says nothing of the value.
+pub not_told : (P : WriteError → Type 0) (e : WriteError) → e ≡ NoMemory → IsWriteRefused P e
+not_told P e is = subst (λ (x : WriteError). IsWriteRefused P x) (sym is) tt

@@ -1,4 +1,4 @@
-ghost use Rattle.std.specs.Prelude.{◌≡◌, ◌≤◌, ◌<◌, ◌++◌, ℕ, List, Some, Err, OnOk, OnErr, IfErr};
+ghost use Rattle.std.specs.Prelude.{◌≡◌, ◌≤◌, ◌<◌, ◌++◌, ℕ, List, [], Some, Err, OnOk, OnErr, IfErr};
 ghost use Rattle.std.specs.Int.{to_be_bytes, w32};
 ghost use Rattle.pgw_wire.specs.Outside.{HasFailed};
 ghost use Rattle.pgw_wire.specs.Output.{IsSameOutput, StartsWithin};
@@ -31,6 +31,18 @@ pub fn begin_record<L>(out: &mut Output<'_, L>, count: usize) -> Result<(), Writ
     }
     out.write_all(&(count as u32).to_be_bytes())?;
     Ok(())
+}
+
+/// Begins the record of a tuple, of so many members. Where memory is refused, nothing is appended.
+pub(crate) fn begin_tuple<L>(count: usize, out: &mut Output<'_, L>) -> Result<(), WriteError>
+    requires { count ≤ 2147483647 }
+    ensures same { IsSameOutput out.old out.new }
+    ensures lookup { out.new.lookup.now ≡ out.old.lookup.now }
+    ensures ok { OnOk result (out.new.out.now.bytes ≡ out.old.out.now.bytes ++ to_be_bytes w32 count) }
+    ensures err { IfErr result (λ e. e ≡ no_memory) }
+    ensures kept { OnErr result (out.new.out.now.bytes ≡ out.old.out.now.bytes ++ []) }
+{
+    begin_record(out, count)
 }
 
 /// Begins a component of a record: the oid of its type is appended, in 4 bytes.

@@ -6,8 +6,10 @@ ghost use Rattle.pgw_meta.specs.Writing.{Writes, Wrote};
 ghost use Rattle.pgw_meta.specs.declared.serialize.WriteError.TheVariants.{LookupFailed as lookup_failed};
 ghost use Rattle.pgw_record.specs.Written.{WritesRecord, member, no_member};
 
-use crate::begin_record;
-use crate::written_members::{write_1, write_2, write_3};
+use crate::record_writing::begin_tuple;
+use crate::written_members::{
+    write_1, write_2, write_3, write_4, write_5, write_6, write_7, write_8,
+};
 use pgw_meta::serialize::{Result, ToSql};
 use pgw_meta::{HasSqlType, Pg, PgMetadataLookup};
 use pgw_wire::{IsNull, Output};
@@ -42,8 +44,11 @@ where
 {
     ghost writes = { λ k v. WritesRecord (member ⟦<Pg as HasSqlType<ST1>>⟧.names A.writes k v.0 no_member) };
 
+    #[tactic(auto, using(crate::proofs::MembersWritten::not_told))]
     fn write_tuple<L: PgMetadataLookup>(&self, out: &mut Output<'_, L>) -> Result {
-        begin_record(out, 1)?;
+        if let Err(error) = begin_tuple(1, out) {
+            return Err(error);
+        }
         if let Err(error) = write_1::<ST1, A, L>(&self.0, out) {
             return Err(error);
         }
@@ -59,8 +64,11 @@ where
     ghost writes = { λ k v. WritesRecord (member ⟦<Pg as HasSqlType<ST1>>⟧.names A.writes k v.0
         (member ⟦<Pg as HasSqlType<ST2>>⟧.names B.writes k v.1 no_member)) };
 
+    #[tactic(auto, using(crate::proofs::MembersWritten::not_told))]
     fn write_tuple<L: PgMetadataLookup>(&self, out: &mut Output<'_, L>) -> Result {
-        begin_record(out, 2)?;
+        if let Err(error) = begin_tuple(2, out) {
+            return Err(error);
+        }
         if let Err(error) = write_2::<ST1, ST2, A, B, L>(&self.0, &self.1, out) {
             return Err(error);
         }
@@ -79,9 +87,238 @@ where
         (member ⟦<Pg as HasSqlType<ST2>>⟧.names B.writes k v.1
         (member ⟦<Pg as HasSqlType<ST3>>⟧.names C.writes k v.2 no_member))) };
 
+    #[tactic(auto, using(crate::proofs::MembersWritten::not_told))]
     fn write_tuple<L: PgMetadataLookup>(&self, out: &mut Output<'_, L>) -> Result {
-        begin_record(out, 3)?;
+        if let Err(error) = begin_tuple(3, out) {
+            return Err(error);
+        }
         if let Err(error) = write_3::<ST1, ST2, ST3, A, B, C, L>(&self.0, &self.1, &self.2, out) {
+            return Err(error);
+        }
+        Ok(IsNull::No)
+    }
+}
+
+impl<ST1, ST2, ST3, ST4, A: ToSql<ST1>, B: ToSql<ST2>, C: ToSql<ST3>, D: ToSql<ST4>> WriteTuple<
+    (ST1, ST2, ST3, ST4),
+> for (A, B, C, D)
+where
+    Pg: HasSqlType<ST1>,
+    Pg: HasSqlType<ST2>,
+    Pg: HasSqlType<ST3>,
+    Pg: HasSqlType<ST4>,
+{
+    ghost writes = { λ k v. WritesRecord (member ⟦<Pg as HasSqlType<ST1>>⟧.names A.writes k v.0
+        (member ⟦<Pg as HasSqlType<ST2>>⟧.names B.writes k v.1
+        (member ⟦<Pg as HasSqlType<ST3>>⟧.names C.writes k v.2
+        (member ⟦<Pg as HasSqlType<ST4>>⟧.names D.writes k v.3 no_member)))) };
+
+    #[tactic(auto, using(crate::proofs::MembersWritten::not_told))]
+    fn write_tuple<L: PgMetadataLookup>(&self, out: &mut Output<'_, L>) -> Result {
+        if let Err(error) = begin_tuple(4, out) {
+            return Err(error);
+        }
+        if let Err(error) = write_4::<ST1, ST2, ST3, ST4, A, B, C, D, L>(
+            &self.0, &self.1, &self.2, &self.3, out,
+        ) {
+            return Err(error);
+        }
+        Ok(IsNull::No)
+    }
+}
+
+impl<
+    ST1,
+    ST2,
+    ST3,
+    ST4,
+    ST5,
+    A: ToSql<ST1>,
+    B: ToSql<ST2>,
+    C: ToSql<ST3>,
+    D: ToSql<ST4>,
+    E: ToSql<ST5>,
+> WriteTuple<(ST1, ST2, ST3, ST4, ST5)> for (A, B, C, D, E)
+where
+    Pg: HasSqlType<ST1>,
+    Pg: HasSqlType<ST2>,
+    Pg: HasSqlType<ST3>,
+    Pg: HasSqlType<ST4>,
+    Pg: HasSqlType<ST5>,
+{
+    ghost writes = { λ k v. WritesRecord (member ⟦<Pg as HasSqlType<ST1>>⟧.names A.writes k v.0
+        (member ⟦<Pg as HasSqlType<ST2>>⟧.names B.writes k v.1
+        (member ⟦<Pg as HasSqlType<ST3>>⟧.names C.writes k v.2
+        (member ⟦<Pg as HasSqlType<ST4>>⟧.names D.writes k v.3
+        (member ⟦<Pg as HasSqlType<ST5>>⟧.names E.writes k v.4 no_member))))) };
+
+    #[tactic(auto, using(crate::proofs::MembersWritten::not_told))]
+    fn write_tuple<L: PgMetadataLookup>(&self, out: &mut Output<'_, L>) -> Result {
+        if let Err(error) = begin_tuple(5, out) {
+            return Err(error);
+        }
+        if let Err(error) = write_5::<ST1, ST2, ST3, ST4, ST5, A, B, C, D, E, L>(
+            &self.0, &self.1, &self.2, &self.3, &self.4, out,
+        ) {
+            return Err(error);
+        }
+        Ok(IsNull::No)
+    }
+}
+
+impl<
+    ST1,
+    ST2,
+    ST3,
+    ST4,
+    ST5,
+    ST6,
+    A: ToSql<ST1>,
+    B: ToSql<ST2>,
+    C: ToSql<ST3>,
+    D: ToSql<ST4>,
+    E: ToSql<ST5>,
+    F: ToSql<ST6>,
+> WriteTuple<(ST1, ST2, ST3, ST4, ST5, ST6)> for (A, B, C, D, E, F)
+where
+    Pg: HasSqlType<ST1>,
+    Pg: HasSqlType<ST2>,
+    Pg: HasSqlType<ST3>,
+    Pg: HasSqlType<ST4>,
+    Pg: HasSqlType<ST5>,
+    Pg: HasSqlType<ST6>,
+{
+    ghost writes = { λ k v. WritesRecord (member ⟦<Pg as HasSqlType<ST1>>⟧.names A.writes k v.0
+        (member ⟦<Pg as HasSqlType<ST2>>⟧.names B.writes k v.1
+        (member ⟦<Pg as HasSqlType<ST3>>⟧.names C.writes k v.2
+        (member ⟦<Pg as HasSqlType<ST4>>⟧.names D.writes k v.3
+        (member ⟦<Pg as HasSqlType<ST5>>⟧.names E.writes k v.4
+        (member ⟦<Pg as HasSqlType<ST6>>⟧.names F.writes k v.5 no_member)))))) };
+
+    #[tactic(auto, using(crate::proofs::MembersWritten::not_told))]
+    fn write_tuple<L: PgMetadataLookup>(&self, out: &mut Output<'_, L>) -> Result {
+        if let Err(error) = begin_tuple(6, out) {
+            return Err(error);
+        }
+        if let Err(error) = write_6::<ST1, ST2, ST3, ST4, ST5, ST6, A, B, C, D, E, F, L>(
+            &self.0, &self.1, &self.2, &self.3, &self.4, &self.5, out,
+        ) {
+            return Err(error);
+        }
+        Ok(IsNull::No)
+    }
+}
+
+impl<
+    ST1,
+    ST2,
+    ST3,
+    ST4,
+    ST5,
+    ST6,
+    ST7,
+    A: ToSql<ST1>,
+    B: ToSql<ST2>,
+    C: ToSql<ST3>,
+    D: ToSql<ST4>,
+    E: ToSql<ST5>,
+    F: ToSql<ST6>,
+    G: ToSql<ST7>,
+> WriteTuple<(ST1, ST2, ST3, ST4, ST5, ST6, ST7)> for (A, B, C, D, E, F, G)
+where
+    Pg: HasSqlType<ST1>,
+    Pg: HasSqlType<ST2>,
+    Pg: HasSqlType<ST3>,
+    Pg: HasSqlType<ST4>,
+    Pg: HasSqlType<ST5>,
+    Pg: HasSqlType<ST6>,
+    Pg: HasSqlType<ST7>,
+{
+    ghost writes = { λ k v. WritesRecord (member ⟦<Pg as HasSqlType<ST1>>⟧.names A.writes k v.0
+        (member ⟦<Pg as HasSqlType<ST2>>⟧.names B.writes k v.1
+        (member ⟦<Pg as HasSqlType<ST3>>⟧.names C.writes k v.2
+        (member ⟦<Pg as HasSqlType<ST4>>⟧.names D.writes k v.3
+        (member ⟦<Pg as HasSqlType<ST5>>⟧.names E.writes k v.4
+        (member ⟦<Pg as HasSqlType<ST6>>⟧.names F.writes k v.5
+        (member ⟦<Pg as HasSqlType<ST7>>⟧.names G.writes k v.6 no_member))))))) };
+
+    #[tactic(auto, using(crate::proofs::MembersWritten::not_told))]
+    fn write_tuple<L: PgMetadataLookup>(&self, out: &mut Output<'_, L>) -> Result {
+        if let Err(error) = begin_tuple(7, out) {
+            return Err(error);
+        }
+        if let Err(error) = write_7::<ST1, ST2, ST3, ST4, ST5, ST6, ST7, A, B, C, D, E, F, G, L>(
+            &self.0, &self.1, &self.2, &self.3, &self.4, &self.5, &self.6, out,
+        ) {
+            return Err(error);
+        }
+        Ok(IsNull::No)
+    }
+}
+
+impl<
+    ST1,
+    ST2,
+    ST3,
+    ST4,
+    ST5,
+    ST6,
+    ST7,
+    ST8,
+    A: ToSql<ST1>,
+    B: ToSql<ST2>,
+    C: ToSql<ST3>,
+    D: ToSql<ST4>,
+    E: ToSql<ST5>,
+    F: ToSql<ST6>,
+    G: ToSql<ST7>,
+    H: ToSql<ST8>,
+> WriteTuple<(ST1, ST2, ST3, ST4, ST5, ST6, ST7, ST8)> for (A, B, C, D, E, F, G, H)
+where
+    Pg: HasSqlType<ST1>,
+    Pg: HasSqlType<ST2>,
+    Pg: HasSqlType<ST3>,
+    Pg: HasSqlType<ST4>,
+    Pg: HasSqlType<ST5>,
+    Pg: HasSqlType<ST6>,
+    Pg: HasSqlType<ST7>,
+    Pg: HasSqlType<ST8>,
+{
+    ghost writes = { λ k v. WritesRecord (member ⟦<Pg as HasSqlType<ST1>>⟧.names A.writes k v.0
+        (member ⟦<Pg as HasSqlType<ST2>>⟧.names B.writes k v.1
+        (member ⟦<Pg as HasSqlType<ST3>>⟧.names C.writes k v.2
+        (member ⟦<Pg as HasSqlType<ST4>>⟧.names D.writes k v.3
+        (member ⟦<Pg as HasSqlType<ST5>>⟧.names E.writes k v.4
+        (member ⟦<Pg as HasSqlType<ST6>>⟧.names F.writes k v.5
+        (member ⟦<Pg as HasSqlType<ST7>>⟧.names G.writes k v.6
+        (member ⟦<Pg as HasSqlType<ST8>>⟧.names H.writes k v.7 no_member)))))))) };
+
+    #[tactic(auto, using(crate::proofs::MembersWritten::not_told))]
+    fn write_tuple<L: PgMetadataLookup>(&self, out: &mut Output<'_, L>) -> Result {
+        if let Err(error) = begin_tuple(8, out) {
+            return Err(error);
+        }
+        if let Err(error) = write_8::<
+            ST1,
+            ST2,
+            ST3,
+            ST4,
+            ST5,
+            ST6,
+            ST7,
+            ST8,
+            A,
+            B,
+            C,
+            D,
+            E,
+            F,
+            G,
+            H,
+            L,
+        >(
+            &self.0, &self.1, &self.2, &self.3, &self.4, &self.5, &self.6, &self.7, out,
+        ) {
             return Err(error);
         }
         Ok(IsNull::No)
