@@ -46,9 +46,7 @@ where
 
     #[tactic(auto, using(crate::proofs::MembersWritten::not_told))]
     fn write_tuple<L: PgMetadataLookup>(&self, out: &mut Output<'_, L>) -> Result {
-        if let Err(error) = begin_tuple(1, out) {
-            return Err(error);
-        }
+        begin_tuple(1, out)?;
         if let Err(error) = write_1::<ST1, A, L>(&self.0, out) {
             return Err(error);
         }
@@ -66,9 +64,7 @@ where
 
     #[tactic(auto, using(crate::proofs::MembersWritten::not_told))]
     fn write_tuple<L: PgMetadataLookup>(&self, out: &mut Output<'_, L>) -> Result {
-        if let Err(error) = begin_tuple(2, out) {
-            return Err(error);
-        }
+        begin_tuple(2, out)?;
         if let Err(error) = write_2::<ST1, ST2, A, B, L>(&self.0, &self.1, out) {
             return Err(error);
         }
@@ -89,9 +85,7 @@ where
 
     #[tactic(auto, using(crate::proofs::MembersWritten::not_told))]
     fn write_tuple<L: PgMetadataLookup>(&self, out: &mut Output<'_, L>) -> Result {
-        if let Err(error) = begin_tuple(3, out) {
-            return Err(error);
-        }
+        begin_tuple(3, out)?;
         if let Err(error) = write_3::<ST1, ST2, ST3, A, B, C, L>(&self.0, &self.1, &self.2, out) {
             return Err(error);
         }
@@ -115,9 +109,7 @@ where
 
     #[tactic(auto, using(crate::proofs::MembersWritten::not_told))]
     fn write_tuple<L: PgMetadataLookup>(&self, out: &mut Output<'_, L>) -> Result {
-        if let Err(error) = begin_tuple(4, out) {
-            return Err(error);
-        }
+        begin_tuple(4, out)?;
         if let Err(error) = write_4::<ST1, ST2, ST3, ST4, A, B, C, D, L>(
             &self.0, &self.1, &self.2, &self.3, out,
         ) {
@@ -154,9 +146,7 @@ where
 
     #[tactic(auto, using(crate::proofs::MembersWritten::not_told))]
     fn write_tuple<L: PgMetadataLookup>(&self, out: &mut Output<'_, L>) -> Result {
-        if let Err(error) = begin_tuple(5, out) {
-            return Err(error);
-        }
+        begin_tuple(5, out)?;
         if let Err(error) = write_5::<ST1, ST2, ST3, ST4, ST5, A, B, C, D, E, L>(
             &self.0, &self.1, &self.2, &self.3, &self.4, out,
         ) {
@@ -197,9 +187,7 @@ where
 
     #[tactic(auto, using(crate::proofs::MembersWritten::not_told))]
     fn write_tuple<L: PgMetadataLookup>(&self, out: &mut Output<'_, L>) -> Result {
-        if let Err(error) = begin_tuple(6, out) {
-            return Err(error);
-        }
+        begin_tuple(6, out)?;
         if let Err(error) = write_6::<ST1, ST2, ST3, ST4, ST5, ST6, A, B, C, D, E, F, L>(
             &self.0, &self.1, &self.2, &self.3, &self.4, &self.5, out,
         ) {
@@ -244,9 +232,7 @@ where
 
     #[tactic(auto, using(crate::proofs::MembersWritten::not_told))]
     fn write_tuple<L: PgMetadataLookup>(&self, out: &mut Output<'_, L>) -> Result {
-        if let Err(error) = begin_tuple(7, out) {
-            return Err(error);
-        }
+        begin_tuple(7, out)?;
         if let Err(error) = write_7::<ST1, ST2, ST3, ST4, ST5, ST6, ST7, A, B, C, D, E, F, G, L>(
             &self.0, &self.1, &self.2, &self.3, &self.4, &self.5, &self.6, out,
         ) {
@@ -295,9 +281,7 @@ where
 
     #[tactic(auto, using(crate::proofs::MembersWritten::not_told))]
     fn write_tuple<L: PgMetadataLookup>(&self, out: &mut Output<'_, L>) -> Result {
-        if let Err(error) = begin_tuple(8, out) {
-            return Err(error);
-        }
+        begin_tuple(8, out)?;
         if let Err(error) = write_8::<
             ST1,
             ST2,
