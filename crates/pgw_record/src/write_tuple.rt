@@ -47,9 +47,7 @@ where
     #[tactic(auto, using(crate::proofs::MembersWritten::not_told))]
     fn write_tuple<L: PgMetadataLookup>(&self, out: &mut Output<'_, L>) -> Result {
         begin_tuple(1, out)?;
-        if let Err(error) = write_1::<ST1, A, L>(&self.0, out) {
-            return Err(error);
-        }
+        write_1::<ST1, A, L>(&self.0, out)?;
         Ok(IsNull::No)
     }
 }
@@ -65,9 +63,7 @@ where
     #[tactic(auto, using(crate::proofs::MembersWritten::not_told))]
     fn write_tuple<L: PgMetadataLookup>(&self, out: &mut Output<'_, L>) -> Result {
         begin_tuple(2, out)?;
-        if let Err(error) = write_2::<ST1, ST2, A, B, L>(&self.0, &self.1, out) {
-            return Err(error);
-        }
+        write_2::<ST1, ST2, A, B, L>(&self.0, &self.1, out)?;
         Ok(IsNull::No)
     }
 }
@@ -86,9 +82,7 @@ where
     #[tactic(auto, using(crate::proofs::MembersWritten::not_told))]
     fn write_tuple<L: PgMetadataLookup>(&self, out: &mut Output<'_, L>) -> Result {
         begin_tuple(3, out)?;
-        if let Err(error) = write_3::<ST1, ST2, ST3, A, B, C, L>(&self.0, &self.1, &self.2, out) {
-            return Err(error);
-        }
+        write_3::<ST1, ST2, ST3, A, B, C, L>(&self.0, &self.1, &self.2, out)?;
         Ok(IsNull::No)
     }
 }
@@ -110,11 +104,7 @@ where
     #[tactic(auto, using(crate::proofs::MembersWritten::not_told))]
     fn write_tuple<L: PgMetadataLookup>(&self, out: &mut Output<'_, L>) -> Result {
         begin_tuple(4, out)?;
-        if let Err(error) = write_4::<ST1, ST2, ST3, ST4, A, B, C, D, L>(
-            &self.0, &self.1, &self.2, &self.3, out,
-        ) {
-            return Err(error);
-        }
+        write_4::<ST1, ST2, ST3, ST4, A, B, C, D, L>(&self.0, &self.1, &self.2, &self.3, out)?;
         Ok(IsNull::No)
     }
 }
@@ -147,11 +137,9 @@ where
     #[tactic(auto, using(crate::proofs::MembersWritten::not_told))]
     fn write_tuple<L: PgMetadataLookup>(&self, out: &mut Output<'_, L>) -> Result {
         begin_tuple(5, out)?;
-        if let Err(error) = write_5::<ST1, ST2, ST3, ST4, ST5, A, B, C, D, E, L>(
+        write_5::<ST1, ST2, ST3, ST4, ST5, A, B, C, D, E, L>(
             &self.0, &self.1, &self.2, &self.3, &self.4, out,
-        ) {
-            return Err(error);
-        }
+        )?;
         Ok(IsNull::No)
     }
 }
@@ -188,11 +176,9 @@ where
     #[tactic(auto, using(crate::proofs::MembersWritten::not_told))]
     fn write_tuple<L: PgMetadataLookup>(&self, out: &mut Output<'_, L>) -> Result {
         begin_tuple(6, out)?;
-        if let Err(error) = write_6::<ST1, ST2, ST3, ST4, ST5, ST6, A, B, C, D, E, F, L>(
+        write_6::<ST1, ST2, ST3, ST4, ST5, ST6, A, B, C, D, E, F, L>(
             &self.0, &self.1, &self.2, &self.3, &self.4, &self.5, out,
-        ) {
-            return Err(error);
-        }
+        )?;
         Ok(IsNull::No)
     }
 }
@@ -233,11 +219,9 @@ where
     #[tactic(auto, using(crate::proofs::MembersWritten::not_told))]
     fn write_tuple<L: PgMetadataLookup>(&self, out: &mut Output<'_, L>) -> Result {
         begin_tuple(7, out)?;
-        if let Err(error) = write_7::<ST1, ST2, ST3, ST4, ST5, ST6, ST7, A, B, C, D, E, F, G, L>(
+        write_7::<ST1, ST2, ST3, ST4, ST5, ST6, ST7, A, B, C, D, E, F, G, L>(
             &self.0, &self.1, &self.2, &self.3, &self.4, &self.5, &self.6, out,
-        ) {
-            return Err(error);
-        }
+        )?;
         Ok(IsNull::No)
     }
 }
@@ -282,29 +266,9 @@ where
     #[tactic(auto, using(crate::proofs::MembersWritten::not_told))]
     fn write_tuple<L: PgMetadataLookup>(&self, out: &mut Output<'_, L>) -> Result {
         begin_tuple(8, out)?;
-        if let Err(error) = write_8::<
-            ST1,
-            ST2,
-            ST3,
-            ST4,
-            ST5,
-            ST6,
-            ST7,
-            ST8,
-            A,
-            B,
-            C,
-            D,
-            E,
-            F,
-            G,
-            H,
-            L,
-        >(
+        write_8::<ST1, ST2, ST3, ST4, ST5, ST6, ST7, ST8, A, B, C, D, E, F, G, H, L>(
             &self.0, &self.1, &self.2, &self.3, &self.4, &self.5, &self.6, &self.7, out,
-        ) {
-            return Err(error);
-        }
+        )?;
         Ok(IsNull::No)
     }
 }
