@@ -73,9 +73,7 @@ fn write_cell<ST, T: ToSql<ST>, L: PgMetadataLookup>(
     ensures faults { (L.state out.old.lookup.now).fault_count ≤ (L.state out.new.lookup.now).fault_count }
 {
     begin_component(out, oid)?;
-    if let Err(error) = write_element::<ST, T, L>(value, out) {
-        return Err(error);
-    }
+    write_element::<ST, T, L>(value, out)?;
     Ok(())
 }
 

@@ -26,9 +26,7 @@ where
     ensures told { (L.state out.new.lookup.now).told ≡ (L.state out.old.lookup.now).told }
     ensures faults { (L.state out.old.lookup.now).fault_count ≤ (L.state out.new.lookup.now).fault_count }
 {
-    if let Err(error) = write_component::<ST1, A, L>(a, out) {
-        return Err(error);
-    }
+    write_component::<ST1, A, L>(a, out)?;
     Ok(())
 }
 
@@ -51,9 +49,7 @@ where
     ensures told { (L.state out.new.lookup.now).told ≡ (L.state out.old.lookup.now).told }
     ensures faults { (L.state out.old.lookup.now).fault_count ≤ (L.state out.new.lookup.now).fault_count }
 {
-    if let Err(error) = write_component::<ST1, A, L>(a, out) {
-        return Err(error);
-    }
+    write_component::<ST1, A, L>(a, out)?;
     write_1::<ST2, B, L>(b, out)
 }
 
@@ -82,9 +78,7 @@ where
     ensures told { (L.state out.new.lookup.now).told ≡ (L.state out.old.lookup.now).told }
     ensures faults { (L.state out.old.lookup.now).fault_count ≤ (L.state out.new.lookup.now).fault_count }
 {
-    if let Err(error) = write_component::<ST1, A, L>(a, out) {
-        return Err(error);
-    }
+    write_component::<ST1, A, L>(a, out)?;
     write_2::<ST2, ST3, B, C, L>(b, c, out)
 }
 
@@ -117,9 +111,7 @@ where
     ensures told { (L.state out.new.lookup.now).told ≡ (L.state out.old.lookup.now).told }
     ensures faults { (L.state out.old.lookup.now).fault_count ≤ (L.state out.new.lookup.now).fault_count }
 {
-    if let Err(error) = write_component::<ST1, A, L>(a, out) {
-        return Err(error);
-    }
+    write_component::<ST1, A, L>(a, out)?;
     write_3::<ST2, ST3, ST4, B, C, D, L>(b, c, d, out)
 }
 
@@ -156,9 +148,7 @@ where
     ensures told { (L.state out.new.lookup.now).told ≡ (L.state out.old.lookup.now).told }
     ensures faults { (L.state out.old.lookup.now).fault_count ≤ (L.state out.new.lookup.now).fault_count }
 {
-    if let Err(error) = write_component::<ST1, A, L>(a, out) {
-        return Err(error);
-    }
+    write_component::<ST1, A, L>(a, out)?;
     write_4::<ST2, ST3, ST4, ST5, B, C, D, E, L>(b, c, d, e, out)
 }
 
@@ -199,9 +189,7 @@ where
     ensures told { (L.state out.new.lookup.now).told ≡ (L.state out.old.lookup.now).told }
     ensures faults { (L.state out.old.lookup.now).fault_count ≤ (L.state out.new.lookup.now).fault_count }
 {
-    if let Err(error) = write_component::<ST1, A, L>(a, out) {
-        return Err(error);
-    }
+    write_component::<ST1, A, L>(a, out)?;
     write_5::<ST2, ST3, ST4, ST5, ST6, B, C, D, E, F, L>(b, c, d, e, f, out)
 }
 
@@ -255,9 +243,7 @@ where
     ensures told { (L.state out.new.lookup.now).told ≡ (L.state out.old.lookup.now).told }
     ensures faults { (L.state out.old.lookup.now).fault_count ≤ (L.state out.new.lookup.now).fault_count }
 {
-    if let Err(error) = write_component::<ST1, A, L>(a, out) {
-        return Err(error);
-    }
+    write_component::<ST1, A, L>(a, out)?;
     write_6::<ST2, ST3, ST4, ST5, ST6, ST7, B, C, D, E, F, G, L>(b, c, d, e, f, g, out)
 }
 
@@ -316,8 +302,6 @@ where
     ensures told { (L.state out.new.lookup.now).told ≡ (L.state out.old.lookup.now).told }
     ensures faults { (L.state out.old.lookup.now).fault_count ≤ (L.state out.new.lookup.now).fault_count }
 {
-    if let Err(error) = write_component::<ST1, A, L>(a, out) {
-        return Err(error);
-    }
+    write_component::<ST1, A, L>(a, out)?;
     write_7::<ST2, ST3, ST4, ST5, ST6, ST7, ST8, B, C, D, E, F, G, H, L>(b, c, d, e, f, g, h, out)
 }

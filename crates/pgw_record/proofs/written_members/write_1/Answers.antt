@@ -3,4 +3,4 @@ use Rattle.pgw_record.proofs.written_members.write_1.Goals as goal
 
 pub returns-clause-wrote : goal.returns-clause-wrote
 returns-clause-wrote g c =
-    component_alone g.bound-3.names g.A.ToSql.writes c.args.a.now _ _ (g.L.PgMetadataLookup.state c.args.out.now.lookup.now).told _ _ c.in_default.ensures.wrote
+    component_alone g.bound-3.names g.A.ToSql.writes c.args.a.now _ _ (g.L.PgMetadataLookup.state c.args.out.now.lookup.now).told _ _ c.in_ok-write_component.ensures.wrote

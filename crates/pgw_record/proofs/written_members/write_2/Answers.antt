@@ -6,4 +6,4 @@ pub returns-clause-wrote : goal.returns-clause-wrote
 returns-clause-wrote g c =
     component_then g.bound-4.names g.A.ToSql.writes c.args.a.now
     (λ k. member g.bound-5.names g.B.ToSql.writes k c.args.b.now no_member)
-    _ _ _ (g.L.PgMetadataLookup.state c.args.out.now.lookup.now).told (g.L.PgMetadataLookup.state c.write_component.new.out.lookup.now).told _ c.write_1.result c.in_default.ensures.wrote c.in_default.ensures.told c.write_1.ensures.wrote
+    _ _ _ (g.L.PgMetadataLookup.state c.args.out.now.lookup.now).told (g.L.PgMetadataLookup.state c.write_component.new.out.lookup.now).told _ c.write_1.result c.in_ok-write_component.ensures.wrote c.in_ok-write_component.ensures.told c.write_1.ensures.wrote
