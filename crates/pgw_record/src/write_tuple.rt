@@ -8,7 +8,7 @@ ghost use Rattle.pgw_record.specs.Written.{WritesRecord, member, no_member};
 
 use crate::record_writing::begin_tuple;
 use crate::written_members::{
-    write_1, write_2, write_3, write_4, write_5, write_6, write_7, write_8,
+    write_eight, write_five, write_four, write_one, write_seven, write_six, write_three, write_two,
 };
 use pgw_meta::serialize::{Result, ToSql};
 use pgw_meta::{HasSqlType, Pg, PgMetadataLookup};
@@ -47,7 +47,7 @@ where
     #[tactic(auto, using(crate::proofs::MembersWritten::not_told))]
     fn write_tuple<L: PgMetadataLookup>(&self, out: &mut Output<'_, L>) -> Result {
         begin_tuple(1, out)?;
-        write_1::<ST1, A, L>(&self.0, out)?;
+        write_one::<ST1, A, L>(&self.0, out)?;
         Ok(IsNull::No)
     }
 }
@@ -63,7 +63,7 @@ where
     #[tactic(auto, using(crate::proofs::MembersWritten::not_told))]
     fn write_tuple<L: PgMetadataLookup>(&self, out: &mut Output<'_, L>) -> Result {
         begin_tuple(2, out)?;
-        write_2::<ST1, ST2, A, B, L>(&self.0, &self.1, out)?;
+        write_two::<ST1, ST2, A, B, L>(&self.0, &self.1, out)?;
         Ok(IsNull::No)
     }
 }
@@ -82,7 +82,7 @@ where
     #[tactic(auto, using(crate::proofs::MembersWritten::not_told))]
     fn write_tuple<L: PgMetadataLookup>(&self, out: &mut Output<'_, L>) -> Result {
         begin_tuple(3, out)?;
-        write_3::<ST1, ST2, ST3, A, B, C, L>(&self.0, &self.1, &self.2, out)?;
+        write_three::<ST1, ST2, ST3, A, B, C, L>(&self.0, &self.1, &self.2, out)?;
         Ok(IsNull::No)
     }
 }
@@ -104,7 +104,7 @@ where
     #[tactic(auto, using(crate::proofs::MembersWritten::not_told))]
     fn write_tuple<L: PgMetadataLookup>(&self, out: &mut Output<'_, L>) -> Result {
         begin_tuple(4, out)?;
-        write_4::<ST1, ST2, ST3, ST4, A, B, C, D, L>(&self.0, &self.1, &self.2, &self.3, out)?;
+        write_four::<ST1, ST2, ST3, ST4, A, B, C, D, L>(&self.0, &self.1, &self.2, &self.3, out)?;
         Ok(IsNull::No)
     }
 }
@@ -137,7 +137,7 @@ where
     #[tactic(auto, using(crate::proofs::MembersWritten::not_told))]
     fn write_tuple<L: PgMetadataLookup>(&self, out: &mut Output<'_, L>) -> Result {
         begin_tuple(5, out)?;
-        write_5::<ST1, ST2, ST3, ST4, ST5, A, B, C, D, E, L>(
+        write_five::<ST1, ST2, ST3, ST4, ST5, A, B, C, D, E, L>(
             &self.0, &self.1, &self.2, &self.3, &self.4, out,
         )?;
         Ok(IsNull::No)
@@ -176,7 +176,7 @@ where
     #[tactic(auto, using(crate::proofs::MembersWritten::not_told))]
     fn write_tuple<L: PgMetadataLookup>(&self, out: &mut Output<'_, L>) -> Result {
         begin_tuple(6, out)?;
-        write_6::<ST1, ST2, ST3, ST4, ST5, ST6, A, B, C, D, E, F, L>(
+        write_six::<ST1, ST2, ST3, ST4, ST5, ST6, A, B, C, D, E, F, L>(
             &self.0, &self.1, &self.2, &self.3, &self.4, &self.5, out,
         )?;
         Ok(IsNull::No)
@@ -219,7 +219,7 @@ where
     #[tactic(auto, using(crate::proofs::MembersWritten::not_told))]
     fn write_tuple<L: PgMetadataLookup>(&self, out: &mut Output<'_, L>) -> Result {
         begin_tuple(7, out)?;
-        write_7::<ST1, ST2, ST3, ST4, ST5, ST6, ST7, A, B, C, D, E, F, G, L>(
+        write_seven::<ST1, ST2, ST3, ST4, ST5, ST6, ST7, A, B, C, D, E, F, G, L>(
             &self.0, &self.1, &self.2, &self.3, &self.4, &self.5, &self.6, out,
         )?;
         Ok(IsNull::No)
@@ -266,7 +266,7 @@ where
     #[tactic(auto, using(crate::proofs::MembersWritten::not_told))]
     fn write_tuple<L: PgMetadataLookup>(&self, out: &mut Output<'_, L>) -> Result {
         begin_tuple(8, out)?;
-        write_8::<ST1, ST2, ST3, ST4, ST5, ST6, ST7, ST8, A, B, C, D, E, F, G, H, L>(
+        write_eight::<ST1, ST2, ST3, ST4, ST5, ST6, ST7, ST8, A, B, C, D, E, F, G, H, L>(
             &self.0, &self.1, &self.2, &self.3, &self.4, &self.5, &self.6, &self.7, out,
         )?;
         Ok(IsNull::No)

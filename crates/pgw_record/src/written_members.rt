@@ -11,7 +11,7 @@ use pgw_meta::{HasSqlType, Pg, PgMetadataLookup};
 use pgw_wire::Output;
 
 /// Writes one member.
-pub(crate) fn write_1<ST1, A: ToSql<ST1>, L: PgMetadataLookup>(
+pub(crate) fn write_one<ST1, A: ToSql<ST1>, L: PgMetadataLookup>(
     a: &A,
     out: &mut Output<'_, L>,
 ) -> Result<(), WriteError>
@@ -31,7 +31,7 @@ where
 }
 
 /// Writes two members.
-pub(crate) fn write_2<ST1, ST2, A: ToSql<ST1>, B: ToSql<ST2>, L: PgMetadataLookup>(
+pub(crate) fn write_two<ST1, ST2, A: ToSql<ST1>, B: ToSql<ST2>, L: PgMetadataLookup>(
     a: &A,
     b: &B,
     out: &mut Output<'_, L>,
@@ -50,11 +50,11 @@ where
     ensures faults { (L.state out.old.lookup.now).fault_count ≤ (L.state out.new.lookup.now).fault_count }
 {
     write_component::<ST1, A, L>(a, out)?;
-    write_1::<ST2, B, L>(b, out)
+    write_one::<ST2, B, L>(b, out)
 }
 
 /// Writes three members.
-pub(crate) fn write_3<
+pub(crate) fn write_three<
     ST1,
     ST2,
     ST3,
@@ -79,11 +79,11 @@ where
     ensures faults { (L.state out.old.lookup.now).fault_count ≤ (L.state out.new.lookup.now).fault_count }
 {
     write_component::<ST1, A, L>(a, out)?;
-    write_2::<ST2, ST3, B, C, L>(b, c, out)
+    write_two::<ST2, ST3, B, C, L>(b, c, out)
 }
 
 /// Writes four members.
-pub(crate) fn write_4<
+pub(crate) fn write_four<
     ST1,
     ST2,
     ST3,
@@ -112,11 +112,11 @@ where
     ensures faults { (L.state out.old.lookup.now).fault_count ≤ (L.state out.new.lookup.now).fault_count }
 {
     write_component::<ST1, A, L>(a, out)?;
-    write_3::<ST2, ST3, ST4, B, C, D, L>(b, c, d, out)
+    write_three::<ST2, ST3, ST4, B, C, D, L>(b, c, d, out)
 }
 
 /// Writes five members.
-pub(crate) fn write_5<
+pub(crate) fn write_five<
     ST1,
     ST2,
     ST3,
@@ -149,11 +149,11 @@ where
     ensures faults { (L.state out.old.lookup.now).fault_count ≤ (L.state out.new.lookup.now).fault_count }
 {
     write_component::<ST1, A, L>(a, out)?;
-    write_4::<ST2, ST3, ST4, ST5, B, C, D, E, L>(b, c, d, e, out)
+    write_four::<ST2, ST3, ST4, ST5, B, C, D, E, L>(b, c, d, e, out)
 }
 
 /// Writes six members.
-pub(crate) fn write_6<
+pub(crate) fn write_six<
     ST1,
     ST2,
     ST3,
@@ -190,11 +190,11 @@ where
     ensures faults { (L.state out.old.lookup.now).fault_count ≤ (L.state out.new.lookup.now).fault_count }
 {
     write_component::<ST1, A, L>(a, out)?;
-    write_5::<ST2, ST3, ST4, ST5, ST6, B, C, D, E, F, L>(b, c, d, e, f, out)
+    write_five::<ST2, ST3, ST4, ST5, ST6, B, C, D, E, F, L>(b, c, d, e, f, out)
 }
 
 /// Writes seven members.
-pub(crate) fn write_7<
+pub(crate) fn write_seven<
     ST1,
     ST2,
     ST3,
@@ -244,11 +244,11 @@ where
     ensures faults { (L.state out.old.lookup.now).fault_count ≤ (L.state out.new.lookup.now).fault_count }
 {
     write_component::<ST1, A, L>(a, out)?;
-    write_6::<ST2, ST3, ST4, ST5, ST6, ST7, B, C, D, E, F, G, L>(b, c, d, e, f, g, out)
+    write_six::<ST2, ST3, ST4, ST5, ST6, ST7, B, C, D, E, F, G, L>(b, c, d, e, f, g, out)
 }
 
 /// Writes eight members.
-pub(crate) fn write_8<
+pub(crate) fn write_eight<
     ST1,
     ST2,
     ST3,
@@ -303,5 +303,7 @@ where
     ensures faults { (L.state out.old.lookup.now).fault_count ≤ (L.state out.new.lookup.now).fault_count }
 {
     write_component::<ST1, A, L>(a, out)?;
-    write_7::<ST2, ST3, ST4, ST5, ST6, ST7, ST8, B, C, D, E, F, G, H, L>(b, c, d, e, f, g, h, out)
+    write_seven::<ST2, ST3, ST4, ST5, ST6, ST7, ST8, B, C, D, E, F, G, H, L>(
+        b, c, d, e, f, g, h, out,
+    )
 }

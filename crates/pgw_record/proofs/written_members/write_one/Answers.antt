@@ -1,5 +1,5 @@
 use Rattle.pgw_record.proofs.MembersWritten.{component_alone}
-use Rattle.pgw_record.proofs.written_members.write_1.Goals as goal
+use Rattle.pgw_record.proofs.written_members.write_one.Goals as goal
 
 pub returns-clause-wrote : goal.returns-clause-wrote
 returns-clause-wrote g c =
