@@ -1,3 +1,4 @@
+pub mod RecordFields
 pub mod WorkedRecords
 mod Refusals
 mod MembersRead

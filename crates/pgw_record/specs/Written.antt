@@ -77,8 +77,3 @@ WroteMembers members bytes (Ok u) =
     (components : List Component) × (length components ≡ members.count) × members.written components
     × (bytes ≡ components_bytes components)
 WroteMembers members bytes (Err e) = IsWriteRefused members.refused e
-
--- A record was written.
-abbrev pub WroteRecord : WrittenMembers → List ℕ → Result IsNull WriteError → Type 0
-WroteRecord members bytes (Ok null) = WritesRecord members (Ok null) bytes
-WroteRecord members bytes (Err e) = IsWriteRefused (λ e. WritesRecord members (Err e) bytes) e
