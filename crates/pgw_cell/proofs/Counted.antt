@@ -56,16 +56,17 @@ leaf_sizes (array t) p leaf bytes = absurd leaf
 leaf_sizes (named k t) p leaf bytes = absurd leaf
 leaf_sizes _ p leaf bytes = refl
 
+-- A value of the type that is not null has the size of its piece.
+pub piece_counted : (t : Shape) (v : Value) → HasPiece t v → piece_size t v ≡ canonical_size t v
+piece_counted t null has = absurd ((piece_told t).some null has refl)
+piece_counted t _ has = refl
+
 -- No piece is read as null, so that the sizes of its cell are those of the piece.
 pub cell_sizes : (t : Shape) (p : List ℕ) → IsBytes p → size_read (piece_size t) (read_piece t p) ≡ size_read (canonical_size t) (read_piece t p)
 cell_sizes t p bytes = by_read (read_piece t p) refl
   where
-    some : (v : Value) → HasPiece t v → piece_size t v ≡ canonical_size t v
-    some null has = absurd ((piece_told t).some null has refl)
-    some _ has = refl
-
     by_read : (r : Result Value Break) → read_piece t p ≡ r → size_read (piece_size t) r ≡ size_read (canonical_size t) r
-    by_read (Ok v) is = ap (λ n. Ok (counted n)) (some v ((piece_told t).has p v ((piece_told t).exact.sound.spelled p v bytes is)))
+    by_read (Ok v) is = ap (λ n. Ok (counted n)) (piece_counted t v ((piece_told t).has p v ((piece_told t).exact.sound.spelled p v bytes is)))
     by_read (Err kind) is = refl
 
 abbrev list_read : Result (List Value × List ℕ) Break → Result Value Break

@@ -10,6 +10,8 @@ pub mod Reading
 pub mod Written
 pub mod Numerics
 pub mod Measured
+pub mod EqualElements
+pub mod Appending
 pub mod Rewriting
 pub mod Writing
 pub mod PlainFields

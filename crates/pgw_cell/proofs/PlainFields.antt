@@ -1,10 +1,11 @@
 -- Fields that are canonical as they stand.
 use Rattle.std.proofs.Common.{◌≡◌, ◌⊎◌, inl, inr, ℕ, zero, suc, ◌+◌, ◌<◌, ◌≤◌, ◌-◌, List, [], ◌∷◌, ◌++◌, length, get_or, take, drop, true, false, None, Some, Result, Ok, Err, w16, w32, w64, refl, sym, ap, ◌∙◌, arith, lit<, subst, append-nil, append_assoc, length-append, map, Bool, ◌||◌}
+use Rattle.std.specs.Prelude.{◌==◌, ◌^◌, not}
 use Rattle.std.specs.Result.{is_ok}
 use Rattle.pgw_wire.specs.declared.kind.Break.{Break}
 use Rattle.std.specs.Int.{Width, to_be_bytes, from_be_bytes, cast_signed}
-use Rattle.std.proofs.lemmas.Bool.{cases_lt}
-use Rattle.std.proofs.lemmas.List.{take_rest, get_or-append-add}
+use Rattle.std.proofs.lemmas.Bool.{cases_lt, lt-ltb, ne_eqb}
+use Rattle.std.proofs.lemmas.List.{take_rest, take_at, get_or-append-add}
 use Rattle.pgw_wire.specs.Cell.{Cell, frame, size_of}
 use Rattle.pgw_meta.specs.Known.{Known}
 use Rattle.pgw_meta.specs.Shape.{Scalar, bool, char, int2, int4, int8, oid, text, bytea, uuid, money, pg_lsn, macaddr, macaddr8, inet, cidr, date, time, timestamp, timestamptz, interval, numeric, Shape, scalar, nullable, array, named}
@@ -18,25 +19,30 @@ use Rattle.pgw_scalar.specs.Networks.{read_network}
 use Rattle.pgw_scalar.proofs.NetworkFields.{network_exact}
 use Rattle.pgw_cell.specs.Networks.{network_of_field, network_answer}
 use Rattle.pgw_cell.specs.declared.network.NetworkField.{NetworkField}
-use Rattle.pgw_cell.specs.Pieces.{HasPiece, SpellsPiece, canonical_piece}
+use Rattle.pgw_meta.specs.NamedOids.{oids_of}
+use Rattle.pgw_cell.specs.Pieces.{HasPiece, SpellsPiece, canonical_piece, piece_size, read_piece}
+use Rattle.pgw_cell.specs.Written.{counted, size_read, HasRoom, Appends}
+use Rattle.pgw_wire.specs.Room.{Room}
+use Rattle.pgw_scalar.proofs.Readers.{ok_is}
 use Rattle.pgw_cell.specs.Cells.{HasType, Spells, canonical_cell, canonical_size}
-use Rattle.pgw_nested.proofs.Beginnings.{head_is}
+use Rattle.pgw_nested.proofs.Beginnings.{head_is, head_length, rest_bytes}
 use Rattle.pgw_cell.proofs.Counted.{IsLeaf}
-use Rattle.pgw_cell.specs.Plain.{plain_element, no_element, IsPlainElement, PassesElement, ArePlainElements, PassesArray, IsPlainField, IsSomeNetwork, scalar_rule, plain_rule, IsPlainCellOf, Passes, IsPassedBefore}
+use Rattle.pgw_cell.specs.Plain.{plain_element, no_element, IsPlainElement, PassesElement, ArePlainElements, PassesElements, element_kept, PassesArray, IsPlainField, IsSomeNetwork, scalar_rule, plain_rule, IsPlainCellOf, Passes, IsPassedBefore}
 use Rattle.pgw_cell.specs.declared.plain.Rule.{Rule}
 use Rattle.pgw_cell.specs.declared.plain.Rule.TheVariants.{Truth, Array as rule_array}
 use Rattle.pgw_cell.specs.declared.plain.PlainElement.{PlainElement}
 use Rattle.std.specs.List.{AllByRecursion}
 use Rattle.pgw_meta.specs.Schema.{is_nullable}
-use Rattle.pgw_nested.specs.Array.{is_null, any_null, flags_of, array_head, array_bytes}
-use Rattle.pgw_nested.specs.Frames.{frames}
+use Rattle.pgw_nested.specs.Array.{Each, HasOneDimension, one_dimension, elements_behind, is_null, any_null, flags_of, array_head, array_bytes}
+use Rattle.pgw_nested.specs.Frames.{frames, AreFramed}
 use Rattle.pgw_nested.proofs.ReadingOn.{frames_more}
-use Rattle.pgw_cell.proofs.ArrayPieces.{listed_values}
+use Rattle.pgw_cell.proofs.ArrayPieces.{listed_values, frame_length}
 use Rattle.pgw_cell.specs.Value.{list_of}
 use Rattle.pgw_cell.specs.declared.plain.PlainCell.{PlainCell}
 use Rattle.pgw_cell.proofs.Pieces.{piece_told, piece_written}
 use Rattle.pgw_cell.proofs.Reading.{spelled_has_type, size_counted}
 use Rattle.pgw_cell.proofs.Measured.{cell_some}
+use Rattle.pgw_cell.proofs.Rewriting.{cells_many}
 
 -- A piece spells a value that is written as it stands.
 pub record IsSame (Spell : List ℕ → Value → Type 0) (canonical : Value → List ℕ) (p : List ℕ) : Type 0 where
@@ -121,12 +127,12 @@ piece_same known (named k t) p byte h = piece_same known t p byte h
 piece_same known _ p byte h = absurd h
 
 -- The parts of bytes are bytes.
-bytes_left : (xs ys : List ℕ) → IsBytes (xs ++ ys) → IsBytes xs
+pub bytes_left : (xs ys : List ℕ) → IsBytes (xs ++ ys) → IsBytes xs
 bytes_left [] ys byte i = lit< tt
 bytes_left (x ∷ xs) ys byte zero = byte 0
 bytes_left (x ∷ xs) ys byte (suc i) = bytes_left xs ys (λ j. byte (suc j)) i
 
-bytes_right : (xs ys : List ℕ) → IsBytes (xs ++ ys) → IsBytes ys
+pub bytes_right : (xs ys : List ℕ) → IsBytes (xs ++ ys) → IsBytes ys
 bytes_right xs ys byte i = subst (λ (n : ℕ). n < 256) (get_or-append-add xs ys i 0) (byte (length xs + i))
 
 -- The piece of a field in front of bytes.
@@ -173,20 +179,22 @@ no_array numeric e = absurd (cc)
 -- Elements that pass are the canonical cells of values of the type.
 record AreSame (known : Known) (t : Shape) (cells : List Cell) : Type 0 where
   pub values : List Value
+  pub spell : Each (Spells t) cells values
   pub has : AllByRecursion (HasType t) values
   pub are : map (canonical_cell known t) values ≡ cells
 
 elements_same : (known : Known) (t : Shape) (e : PlainElement) → e.rule ≡ plain_rule t → e.nullable ≡ is_nullable t → (cells : List Cell) → IsBytes (frames cells) → AllByRecursion (PassesElement e) cells → AreSame known t cells
-elements_same known t e rules nulls [] byte pass = record { values = []; has = tt; are = refl }
+elements_same known t e rules nulls [] byte pass = record { values = []; spell = tt; has = tt; are = refl }
 elements_same known t e rules nulls (None ∷ cells) byte pass =
     let others = elements_same known t e rules nulls cells (bytes_right (frame None) (frames cells) byte) pass.1 in
-    record { values = null ∷ others.values; has = (sym nulls ∙ pass.0, others.has); are = ap (λ (cs : List Cell). None ∷ cs) others.are }
+    record { values = null ∷ others.values; spell = ((sym nulls ∙ pass.0, refl), others.spell); has = (sym nulls ∙ pass.0, others.has); are = ap (λ (cs : List Cell). None ∷ cs) others.are }
 elements_same known t e rules nulls (Some p ∷ cells) byte pass =
     let others = elements_same known t e rules nulls cells (bytes_right (frame (Some p)) (frames cells) byte) pass.1 in
-    let one = piece_same known t p (bytes_right (to_be_bytes w32 (length p)) p (bytes_left (frame (Some p)) (frames cells) byte)) (subst (λ (r : Rule). Passes r p) rules pass.0) in
+    let one = piece_same known t p (bytes_right (to_be_bytes w32 (length p)) p (bytes_left (frame (Some p)) (frames cells) byte)) (subst (λ (r : Rule). Passes r p) rules pass.0.0) in
     let is : canonical_cell known t one.value ≡ Some p = cell_some known t one.value ((piece_told t).has p one.value one.spells) ∙ ap Some one.same in
     record {
       values = one.value ∷ others.values;
+      spell = (one.spells, others.spell);
       has = (spelled_has_type t (Some p) one.value one.spells, others.has);
       are = ap (λ (c : Cell). c ∷ map (canonical_cell known t) others.values) is ∙ ap (λ (cs : List Cell). Some p ∷ cs) others.are;
     }
@@ -237,7 +245,7 @@ element_more e n bytes rest behind null_so_far null_now c h pass is nulls = reco
 }
 
 pub plain_element_of : (e : PlainElement) (bytes rest : List ℕ) → IsPassedBefore 2147483647 (Passes e.rule) bytes rest → IsPlainElement e bytes false rest
-plain_element_of e bytes rest h = record { cell = Some h.piece; pass = h.passes; is = h.is; nulls = refl }
+plain_element_of e bytes rest h = record { cell = Some h.piece; pass = (h.passes, h.fits); is = h.is; nulls = refl }
 
 pub null_element : (e : PlainElement) (bytes rest : List ℕ) → (e.nullable ≡ true) × (bytes ≡ frame None ++ rest) → IsPlainElement e bytes true rest
 null_element e bytes rest h = record { cell = None; pass = h.0; is = h.1; nulls = refl }
@@ -267,6 +275,121 @@ whole_array e piece elements flags count null_there is h flag = record {
       ∙ ap (λ n. array_head n e.oid count 1 ++ frames h.cells) (flag ∙ ap flags_of h.nulls)
       ∙ ap (λ n. array_head (flags_of (any_null h.cells)) e.oid n 1 ++ frames h.cells) (sym h.many);
 }
+
+-- An array of one dimension, whatever its oid and the index of its first element.
+pub dimension_read : (piece r s t u v : List ℕ) (d f o n l : ℕ) → piece ≡ to_be_bytes w32 d ++ r → r ≡ to_be_bytes w32 f ++ s → s ≡ to_be_bytes w32 o ++ t → t ≡ to_be_bytes w32 n ++ u → u ≡ to_be_bytes w32 l ++ v
+    → d ≡ 1 → f < 2 ^ 32 → n < 2 ^ 32 → HasOneDimension piece f n v
+dimension_read piece r s t u v d f o n l a b c g h one small few = record {
+  oid = o;
+  bound = l;
+  flags_fit = small;
+  count_fits = few;
+  is = a ∙ ap (λ (x : ℕ). to_be_bytes w32 x ++ r) one
+      ∙ ap (λ (x : List ℕ). to_be_bytes w32 1 ++ x) (b ∙ ap (λ (x : List ℕ). to_be_bytes w32 f ++ x) (c
+      ∙ ap (λ (x : List ℕ). to_be_bytes w32 o ++ x) (g ∙ ap (λ (x : List ℕ). to_be_bytes w32 n ++ x) h)))
+      ∙ sym (head_is f o n l v);
+}
+
+-- Cells that pass are framed, where nulls may stand if one is among them.
+passed_framed : (e : PlainElement) (nulls : Bool) (cells : List Cell) → (any_null cells ≡ true → nulls ≡ true) → AllByRecursion (PassesElement e) cells → AreFramed nulls cells
+passed_framed e nulls [] may_be pass = tt
+passed_framed e nulls (None ∷ cells) may_be pass = (may_be refl, passed_framed e nulls cells (λ h. may_be refl) pass.1)
+passed_framed e nulls (Some p ∷ cells) may_be pass = (omega (arith, pass.0.1), passed_framed e nulls cells may_be pass.1)
+
+-- Nulls may stand in an array where none is among its cells or its flags are not 0.
+may_stand : (null_there : Bool) (flags : ℕ) (cells : List Cell) → null_there ≡ any_null cells → (null_there ≡ true → flags ≡ 0 → ⊥) → any_null cells ≡ true → not (flags == 0) ≡ true
+may_stand null_there flags cells is some h = ap not (ne_eqb flags 0 (some (is ∙ h)))
+
+pub elements_passed : (t : Shape) (piece elements rest : List ℕ) (flags count : ℕ) (null_there : Bool) → HasOneDimension piece flags count elements → count ≤ 2147483647 → ArePlainElements (element_kept t) count elements null_there rest
+    → (null_there ≡ true → flags ≡ 0 → ⊥) → PassesElements t piece count null_there (take (length elements - length rest) elements)
+elements_passed t piece elements rest flags count null_there one few h some =
+    let front = frames h.cells in
+    let size : length elements - length rest ≡ length front = omega (arith, ap length h.is, length-append front rest) in
+    record {
+      cells = h.cells;
+      are = record {
+        elements = elements_behind flags count elements;
+        behind = rest;
+        begins = one_dimension flags count elements one refl;
+        many = rw (lt-ltb count 2147483648 (omega (arith, few))) (sym h.many);
+        framed = passed_framed (element_kept t) (not (flags == 0)) h.cells (may_stand null_there flags h.cells h.nulls some) h.pass;
+        is = h.is;
+      };
+      pass = h.pass;
+      many = h.many;
+      nulls = h.nulls;
+      is = ap (λ (n : ℕ). take n elements) size ∙ ap (λ (l : List ℕ). take (length front) l) h.is ∙ take_at front rest (length front) refl;
+    }
+
+-- What is kept of elements is their rule and whether nulls are among their values.
+pub kept_so : (t : Shape) (rule : Rule) (nulls_may_be : Bool) (count : ℕ) (bytes rest : List ℕ) (null_there : Bool) → rule ≡ plain_rule t → nulls_may_be ≡ is_nullable t
+    → ArePlainElements (record { rule = rule; nullable = nulls_may_be; oid = 0 }) count bytes null_there rest → ArePlainElements (element_kept t) count bytes null_there rest
+kept_so t rule nulls_may_be count bytes rest null_there same_rule same h =
+    subst (λ (r : Rule). ArePlainElements (record { rule = r; nullable = is_nullable t; oid = 0 }) count bytes null_there rest) same_rule
+    (subst (λ (b : Bool). ArePlainElements (record { rule = rule; nullable = b; oid = 0 }) count bytes null_there rest) same h)
+
+-- What an array is read as whose elements pass: a value whose canonical piece has them as they stand.
+pub record ReadsPlain (known : Known) (t : Shape) (piece : List ℕ) (count : ℕ) (null_there : Bool) (bytes : List ℕ) : Type 0 where
+  pub value : Value
+  pub reads : read_piece (array t) piece ≡ Ok value
+  pub has : HasPiece (array t) value
+  pub is : canonical_piece known (array t) value ≡ array_head (flags_of null_there) (oids_of known t).oid count 1 ++ bytes
+  pub few : count ≤ length bytes
+
+pub plain_read : (known : Known) (t : Shape) (piece : List ℕ) (count : ℕ) (null_there : Bool) (bytes : List ℕ) → IsBytes piece → PassesElements t piece count null_there bytes → ReadsPlain known t piece count null_there bytes
+plain_read known t piece count null_there bytes byte h =
+    let oid = (oids_of known t).oid in
+    let inner = rest_bytes piece h.are.elements byte h.are.begins in
+    let same = elements_same known t (element_kept t) refl refl h.cells (bytes_left (frames h.cells) h.are.behind (subst IsBytes h.are.is inner)) h.pass in
+    let v = list_of same.values in
+    record {
+      value = v;
+      reads = (piece_told (array t)).exact.reads.again piece v (same.values, record { cells = h.cells; are = h.are; spelled = same.spell }, refl);
+      has = (same.values, refl, same.has);
+      is = ap (λ (vs : List Value). array_bytes oid (map (canonical_cell known t) vs)) (listed_values same.values) ∙ ap (array_bytes oid) same.are
+          ∙ ap (λ (b : Bool). array_head (flags_of b) oid (length h.cells) 1 ++ frames h.cells) (sym h.nulls)
+          ∙ ap (λ (n : ℕ). array_head (flags_of null_there) oid n 1 ++ frames h.cells) h.many
+          ∙ ap (λ (l : List ℕ). array_head (flags_of null_there) oid count 1 ++ l) (sym h.is);
+      few = omega (arith, h.many, cells_many h.cells, ap length h.is);
+    }
+
+-- There is room for all of it where that was made for what is read.
+pub record HasPlainRoom (bytes : List ℕ) (spare : ℕ) : Type 0 where
+  pub small : 20 + length bytes ≤ 2147483647
+  pub room : 24 + length bytes ≤ spare
+
+pub plain_long : (known : Known) (t : Shape) (piece : List ℕ) (count : ℕ) (null_there : Bool) (bytes : List ℕ) (r : ReadsPlain known t piece count null_there bytes) → length (frame (Some (canonical_piece known (array t) r.value))) ≡ 24 + length bytes
+plain_long known t piece count null_there bytes r =
+    let head = array_head (flags_of null_there) (oids_of known t).oid count 1 in
+    omega (arith, frame_length (Some (canonical_piece known (array t) r.value)), ap length r.is, length-append head bytes, head_length (flags_of null_there) (oids_of known t).oid count 1)
+
+pub plain_room : (known : Known) (t : Shape) (piece : List ℕ) (count : ℕ) (null_there : Bool) (bytes : List ℕ) (spare : ℕ) → ReadsPlain known t piece count null_there bytes
+    → HasRoom (read_piece (array t) piece) (λ v. frame (Some (canonical_piece known (array t) v))) spare → HasPlainRoom bytes spare
+plain_room known t piece count null_there bytes spare r h =
+    let same = ok_is r.value h.value (sym r.reads ∙ h.reads) in
+    let long = ap (λ (v : Value). length (frame (Some (canonical_piece known (array t) v)))) (sym same) ∙ plain_long known t piece count null_there bytes r in
+    record { small = omega (arith, long, h.small); room = omega (arith, long, h.room) }
+
+pub plain_appends : (known : Known) (t : Shape) (piece : List ℕ) (count : ℕ) (null_there : Bool) (bytes : List ℕ) (stated : ℕ) (old new : Room) → ReadsPlain known t piece count null_there bytes → stated ≡ (oids_of known t).oid
+    → new.bytes ≡ old.bytes ++ frame (Some (array_head (flags_of null_there) stated count 1 ++ bytes)) → new.spare + (24 + length bytes) ≡ old.spare
+    → Appends (read_piece (array t) piece) (λ v. frame (Some (canonical_piece known (array t) v))) old new
+plain_appends known t piece count null_there bytes stated old new r named_oid wrote spare = λ v read.
+    let same = ok_is r.value v (sym r.reads ∙ read) in
+    let is = ap (λ (n : ℕ). array_head (flags_of null_there) n count 1 ++ bytes) named_oid ∙ sym r.is ∙ ap (canonical_piece known (array t)) same in
+    let long = ap (λ (w : Value). length (frame (Some (canonical_piece known (array t) w)))) (sym same) ∙ plain_long known t piece count null_there bytes r in
+    (wrote ∙ ap (λ (p : List ℕ). old.bytes ++ frame (Some p)) is, omega (arith, spare, long))
+
+-- of no name
+no_names : Known
+no_names k = None
+
+pub plain_size : (t : Shape) (piece : List ℕ) (count : ℕ) (null_there : Bool) (bytes : List ℕ) → IsBytes piece → PassesElements t piece count null_there bytes
+    → Ok (counted (20 + length bytes)) ≡ size_read (piece_size (array t)) (read_piece (array t) piece)
+plain_size t piece count null_there bytes byte h =
+    let r = plain_read no_names t piece count null_there bytes byte h in
+    let head = array_head (flags_of null_there) (oids_of no_names t).oid count 1 in
+    let long : piece_size (array t) r.value ≡ 20 + length bytes = (piece_written no_names (array t)).counted r.value r.has ∙ ap length r.is ∙ length-append head bytes ∙ ap (λ (n : ℕ). n + length bytes) (head_length (flags_of null_there) (oids_of no_names t).oid count 1) in
+    ap (λ (n : ℕ). Ok (counted n)) (sym long) ∙ ap (size_read (piece_size (array t))) (sym r.reads)
 
 pub plain_piece : (known : Known) (most : ℕ) (t : Shape) (cell : PlainCell) (bytes rest : List ℕ) → IsBytes bytes → IsPlainCellOf known cell t → IsPassedBefore most (Passes cell.rule) bytes rest → (field : List ℕ) × IsPlainField known most t field × (bytes ≡ field ++ rest)
 plain_piece known most t cell bytes rest byte is h =

@@ -62,7 +62,7 @@ piece_appends known t p old new bytes a = λ v e.
 -- ---- pieces of types that have no parts
 
 -- What such a piece is written as again is the canonical piece of what it is read as, whatever the oids are.
-leaf_again : (known : Known) (t : Shape) (p : List ℕ) → IsLeaf t → canonical_read t p ≡ canonical_of (canonical_piece known t) (read_piece t p)
+pub leaf_again : (known : Known) (t : Shape) (p : List ℕ) → IsLeaf t → canonical_read t p ≡ canonical_of (canonical_piece known t) (read_piece t p)
 leaf_again known (scalar s) p leaf = refl
 leaf_again known (nullable t) p leaf = absurd leaf
 leaf_again known (array t) p leaf = absurd leaf
@@ -255,6 +255,10 @@ array_placed old begun head with_elements now oid n flags cells null_there begin
     ∙ ap (λ (b : Bool). begun ++ (array_head (flags_of b) oid n 1 ++ frames cells)) nulls
     ∙ ap (λ (k : ℕ). begun ++ (array_head (flags_of (any_null cells)) oid k 1 ++ frames cells)) many
     ∙ ap (λ l. l ++ array_bytes oid cells) begins
+
+-- how many bytes the piece of an array has whose elements' fields are these bytes
+pub plain_length : (oid n : ℕ) (null_there : Bool) (bytes : List ℕ) → length (array_head (flags_of null_there) oid n 1 ++ bytes) ≡ 20 + length bytes
+plain_length oid n null_there bytes = length-append (array_head (flags_of null_there) oid n 1) bytes ∙ ap (λ k. k + length bytes) (head_length (flags_of null_there) oid n 1)
 
 pub placed_length : (old piece now : List ℕ) → now ≡ (old ++ null_length) ++ piece → length now ≡ length old + 4 + length piece
 placed_length old piece now is = omega (arith, ap length is, length-append (old ++ null_length) piece, length-append old null_length)

@@ -6,6 +6,8 @@ pub mod Arrays
 pub mod Pieces
 pub mod Cells
 pub mod Written
+pub mod Appending
+pub mod Equal
 pub mod Plain
 pub mod Data
 pub mod Wrote

@@ -7,7 +7,7 @@ use Rattle.pgw_meta.specs.Known.{Known}
 use Rattle.pgw_meta.specs.Shape.{Scalar, bool, char, int2, int4, int8, oid, text, bytea, uuid, money, pg_lsn, macaddr, macaddr8, inet, cidr, date, time, timestamp, timestamptz, interval, numeric, Shape, scalar, nullable, array, named}
 use Rattle.pgw_meta.specs.NamedOids.{oids_of}
 use Rattle.pgw_meta.specs.Schema.{is_nullable}
-use Rattle.pgw_nested.specs.Array.{is_null, any_null, array_bytes}
+use Rattle.pgw_nested.specs.Array.{AreArrayCells, is_null, any_null, array_bytes}
 use Rattle.pgw_nested.specs.Frames.{frames}
 use Rattle.pgw_scalar.specs.Networks.{Network, IsNetwork}
 use Rattle.pgw_numeric.specs.Numeric.{Numeric as Number, IsNumeric, numeric_bytes}
@@ -100,10 +100,10 @@ Passes Numeric piece = (n : Number) × IsNumeric piece n × (numeric_bytes n ≡
 Passes Array piece = ⊥
 Passes Nothing piece = ⊥
 
--- A cell passes as an element: a null where nulls are values, and a piece that passes the rule.
+-- A cell passes as an element: a null where nulls are values, and a piece that passes the rule and that a frame may hold.
 abbrev pub PassesElement : PlainElement → Cell → Type 0
 PassesElement element None = element.nullable ≡ true
-PassesElement element (Some p) = Passes element.rule p
+PassesElement element (Some p) = Passes element.rule p × (length p ≤ 2147483647)
 
 -- The bytes are the frame of a cell that passes, which is a null or is none, and the rest.
 pub record IsPlainElement (element : PlainElement) (bytes : List ℕ) (null : Bool) (rest : List ℕ) : Type 0 where
@@ -120,6 +120,20 @@ pub record ArePlainElements (element : PlainElement) (count : ℕ) (bytes : List
   pub is : bytes ≡ frames cells ++ rest
   pub nulls : null ≡ any_null cells
   pub pass : AllByRecursion (PassesElement element) cells
+
+-- what is kept of elements of the type, whatever oid it has
+abbrev pub element_kept : Shape → PlainElement
+element_kept t = record { rule = plain_rule t; nullable = is_nullable t; oid = 0 }
+
+-- The piece is the field of an array of so many cells that pass, of which one is a null or none is, and these are their
+-- frames.
+pub record PassesElements (t : Shape) (piece : List ℕ) (count : ℕ) (null : Bool) (bytes : List ℕ) : Type 0 where
+  pub cells : List Cell
+  pub are : AreArrayCells piece cells
+  pub pass : AllByRecursion (PassesElement (element_kept t)) cells
+  pub many : length cells ≡ count
+  pub nulls : null ≡ any_null cells
+  pub is : bytes ≡ frames cells
 
 -- The piece is what cells that pass are written as.
 pub record PassesArray (element : PlainElement) (piece : List ℕ) : Type 0 where

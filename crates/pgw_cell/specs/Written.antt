@@ -6,7 +6,7 @@ use Rattle.pgw_wire.specs.declared.kind.Break.{Break}
 use Rattle.pgw_wire.specs.declared.kind.Break.TheVariants.{Size}
 use Rattle.pgw_wire.specs.Room.{Room, overwritten}
 use Rattle.pgw_meta.specs.Known.{Known}
-use Rattle.pgw_meta.specs.Shape.{Scalar, Shape, scalar, nullable, named}
+use Rattle.pgw_meta.specs.Shape.{Scalar, Shape, scalar}
 use Rattle.pgw_scalar.specs.Leading.{bool_bytes}
 use Rattle.pgw_scalar.specs.Networks.{network_bytes, read_network}
 use Rattle.pgw_numeric.specs.Numeric.{not_a_number, numeric_bytes}
@@ -43,11 +43,9 @@ canonical_of canonical (Err kind) = Err kind
 abbrev pub scalar_read : Scalar → List ℕ → Result (List ℕ) Break
 scalar_read s p = canonical_of (spelling s).canonical ((spelling s).read p)
 
--- the same of a type that is scalar, nullable or named
+-- the same by the type, where no other type than these has pieces
 abbrev pub canonical_read : Shape → List ℕ → Result (List ℕ) Break
 canonical_read (scalar s) = scalar_read s
-canonical_read (nullable t) = canonical_read t
-canonical_read (named k t) = canonical_read t
 canonical_read _ = λ p. Err Size
 
 -- the same of a network in a field with this byte of the type

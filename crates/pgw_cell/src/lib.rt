@@ -4,9 +4,11 @@
 //! (`specs/Spellings.antt`), and nullable, array and named types over one that has values.
 #![tactic(auto)]
 
+mod append;
 mod byte_list;
 mod datum;
 mod digit_list;
+mod equal_elements;
 pub mod laws;
 mod measure;
 mod network;
@@ -19,6 +21,7 @@ mod utf8;
 mod value_sizes;
 mod write;
 
+pub use append::{AppendFault, append_cell};
 pub use byte_list::ByteList;
 pub use datum::{Datum, DatumList};
 pub use digit_list::DigitList;

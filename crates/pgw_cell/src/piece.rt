@@ -127,7 +127,7 @@ fn numeric(piece: &[u8]) -> Result<Canonical<'_>, Break>
     }
 }
 
-/// What the value that a piece of the type spells is written as, or the kind in which the piece breaks.
+/// What the value is written as that a piece of the scalar type spells, or the kind in which the piece breaks.
 #[inline(always)]
 pub(crate) fn written<'a>(t: &PgType, piece: &'a [u8]) -> Result<Canonical<'a>, Break>
     ensures { written_bytes result ≡ canonical_read (shape t.now) piece.now }
@@ -154,7 +154,6 @@ pub(crate) fn written<'a>(t: &PgType, piece: &'a [u8]) -> Result<Canonical<'a>, 
         PgType::Timestamptz => whole(8, piece),
         PgType::Interval => front(16, piece),
         PgType::Numeric => numeric(piece),
-        PgType::Nullable(part) | PgType::Named(_, part) => written(part, piece),
         _ => Err(Break::Size),
     }
 }

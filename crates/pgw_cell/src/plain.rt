@@ -4,9 +4,10 @@ ghost use Rattle.pgw_meta.specs.Known.{Known};
 ghost use Rattle.pgw_meta.specs.NamedOids.{known_of};
 ghost use Rattle.pgw_meta.specs.Shape.{Shape};
 ghost use Rattle.pgw_meta.specs.Types.{shape};
-ghost use Rattle.pgw_nested.specs.Array.{array_head};
-ghost use Rattle.pgw_cell.specs.Plain.{plain_rule, plain_element, PassesArray, IsPlainElement, ArePlainElements, four_bytes, IsPlainCellOf, IsPlainField, IsSomeNetwork, Passes, IsPassedBefore};
+ghost use Rattle.pgw_nested.specs.Array.{array_head, HasOneDimension};
+ghost use Rattle.pgw_cell.specs.Plain.{plain_rule, plain_element, PassesArray, IsPlainElement, ArePlainElements, PassesElements, four_bytes, IsPlainCellOf, IsPlainField, IsSomeNetwork, Passes, IsPassedBefore};
 
+use crate::equal_elements::behind_equal;
 use crate::network::network_field;
 use crate::rewrite::either;
 use crate::sizes::is_nullable;
@@ -330,9 +331,37 @@ fn behind_element(element: PlainElement, bytes: &[u8]) -> Option<(bool, &[u8])>
     }
 }
 
+/// What stands behind so many elements at the front, none of which is null and all of which have the size that the rule asks
+/// for. None where this is not so, or where the rule asks for no size.
+#[inline(always)]
+fn behind_equal_elements(element: PlainElement, count: u32, bytes: &[u8]) -> Option<&[u8]>
+    ensures { IfSome result (λ rest. ArePlainElements element count bytes.now false rest.now) }
+{
+    match element.rule {
+        Rule::One => behind_equal::<5>(1, count, bytes),
+        Rule::Two => behind_equal::<6>(2, count, bytes),
+        Rule::Four => behind_equal::<8>(4, count, bytes),
+        Rule::Six => behind_equal::<10>(6, count, bytes),
+        Rule::Eight => behind_equal::<12>(8, count, bytes),
+        Rule::Sixteen => behind_equal::<20>(16, count, bytes),
+        _ => None,
+    }
+}
+
 /// Whether a null is among so many elements at the front, and what stands behind them. None where one of them is not
 /// canonical as it stands.
+#[inline(always)]
 fn behind_elements(element: PlainElement, count: u32, bytes: &[u8]) -> Option<(bool, &[u8])>
+    ensures { IfSome result (λ x. ArePlainElements element count bytes.now x.0 x.1.now) }
+{
+    match behind_equal_elements(element, count, bytes) {
+        Some(rest) => Some((false, rest)),
+        None => behind_each(element, count, bytes),
+    }
+}
+
+/// The same, element by element.
+fn behind_each(element: PlainElement, count: u32, bytes: &[u8]) -> Option<(bool, &[u8])>
     ensures { IfSome result (λ x. ArePlainElements element count bytes.now x.0 x.1.now) }
 {
     let mut null = false;
@@ -343,6 +372,45 @@ fn behind_elements(element: PlainElement, count: u32, bytes: &[u8]) -> Option<(b
         rest = behind;
     }
     Some((null, rest))
+}
+
+/// The flags and the count of an array that states one dimension, and what stands behind its 20 bytes, whatever the oid of
+/// its elements' type and the index of the first are.
+fn dimension(piece: &[u8]) -> Option<(u32, u32, &[u8])>
+    ensures { IfSome result (λ x. HasOneDimension piece.now x.0 x.1 x.2.now) }
+{
+    let (dimensions, rest) = take_u32(piece)?;
+    let (flags, rest) = take_u32(rest)?;
+    let (_oid, rest) = take_u32(rest)?;
+    let (count, rest) = take_u32(rest)?;
+    let (_bound, rest) = take_u32(rest)?;
+    if dimensions != 1 {
+        return None;
+    }
+    Some((flags, count, rest))
+}
+
+/// How many elements of the type an array has, whether a null is among them, and the bytes of their fields, where all of them
+/// are canonical as they stand: so they are written behind the head of any array that has them. None where one of them is
+/// not known to be, or where the array states no dimension or a count below zero.
+#[inline(never)]
+pub(crate) fn plain_elements<'a>(t: &PgType, piece: &'a [u8]) -> Option<(u32, bool, &'a [u8])>
+    ensures { IfSome result (λ x. PassesElements (shape t.now) piece.now x.0 x.1 x.2.now) }
+{
+    let (flags, count, elements) = dimension(piece)?;
+    if count > 2147483647 {
+        return None;
+    }
+    let element = PlainElement {
+        rule: rule_of(t),
+        nullable: is_nullable(t),
+        oid: 0,
+    };
+    let (null, rest) = behind_elements(element, count, elements)?;
+    if null && flags == 0 {
+        return None;
+    }
+    Some((count, null, &elements[..elements.len() - rest.len()]))
 }
 
 /// Whether the piece is an array of such elements and is written as it stands.

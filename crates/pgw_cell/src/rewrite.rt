@@ -1,9 +1,10 @@
 ghost use Rattle.std.specs.Prelude.{◌≡◌, ◌≤◌, ◌+◌, ◌++◌, ◌||◌, List, ℕ, length, Some, Ok};
+ghost use Rattle.std.specs.Int.{to_be_bytes, w32};
 ghost use Rattle.pgw_wire.specs.Cell.{cell_of, frame};
 ghost use Rattle.pgw_meta.specs.NamedOids.{known_of};
 ghost use Rattle.pgw_meta.specs.Shape.{array};
 ghost use Rattle.pgw_meta.specs.Types.{shape};
-ghost use Rattle.pgw_nested.specs.Array.{is_null, any_null};
+ghost use Rattle.pgw_nested.specs.Array.{is_null, any_null, flags_of, array_head};
 ghost use Rattle.pgw_nested.specs.Frames.{frames};
 ghost use Rattle.pgw_nested.specs.Pieces.{elements_of};
 ghost use Rattle.pgw_cell.specs.Value.{Value};
@@ -13,6 +14,7 @@ ghost use Rattle.pgw_cell.specs.Written.{HasRoom, Appends, cells_read, cells_wri
 
 use crate::measure::is_of_bytes;
 use crate::piece::{are_bytes, written};
+use crate::plain::plain_elements;
 use pgw_meta::{FoundOids, PgType, oid_of};
 use pgw_nested::{ArrayPieces, close_length, place_array, place_length};
 use pgw_wire::{ByteBuffer, RawCell};
@@ -88,10 +90,76 @@ fn push_piece(t: &PgType, piece: &[u8], found: &FoundOids, out: &mut ByteBuffer)
     }
 }
 
+/// The flags of an array, among whose elements a null is or none is.
+#[inline(always)]
+fn flags(null: bool) -> u32
+    ensures { result ≡ flags_of null }
+{
+    if null { 1 } else { 0 }
+}
+
+/// Appends, into the room that was made for these 24 bytes, the length of a piece of so many bytes and what an array of one
+/// dimension begins with.
+#[tactic(auto, unfolding(pgw_nested::specs::Array::array_head))]
+#[inline(always)]
+fn push_head(size: u32, flags: u32, oid: u32, count: u32, out: &mut ByteBuffer)
+    requires { 24 ≤ out.old.spare }
+    ensures bytes { out.new.bytes ≡ out.old.bytes ++ (to_be_bytes w32 size ++ array_head flags oid count 1) }
+    ensures spare { out.new.spare + 24 ≡ out.old.spare }
+{
+    let [a, b, c, d] = size.to_be_bytes();
+    let [e, f, g, h] = flags.to_be_bytes();
+    let [i, j, k, l] = oid.to_be_bytes();
+    let [m, n, o, p] = count.to_be_bytes();
+    out.push_reserved(&[
+        a, b, c, d, 0, 0, 0, 1, e, f, g, h, i, j, k, l, m, n, o, p, 0, 0, 0, 1,
+    ]);
+}
+
+/// Appends the field of an array of so many elements, whose type has this oid, into the room that was made for it. A null is
+/// among them or none is, and the bytes are those of their fields.
+pub(crate) fn push_plain_array(
+    oid: u32,
+    count: u32,
+    null: bool,
+    elements: &[u8],
+    out: &mut ByteBuffer,
+)
+    requires small { 20 + length elements.now ≤ 2147483647 }
+    requires room { 24 + length elements.now ≤ out.old.spare }
+    ensures bytes { out.new.bytes
+        ≡ out.old.bytes ++ frame (Some (array_head (flags_of null) oid count 1 ++ elements.now)) }
+    ensures spare { out.new.spare + (24 + length elements.now) ≡ out.old.spare }
+{
+    push_head(20 + elements.len() as u32, flags(null), oid, count, out);
+    out.push_reserved(elements);
+}
+
 /// The same of a piece of an array of such elements.
 #[cycle(rewriting)]
 #[inline(never)]
 fn push_array(element: &PgType, piece: &[u8], found: &FoundOids, out: &mut ByteBuffer)
+    requires { HasRoom (read_piece (array (shape element.now)) piece.now)
+        (λ v. frame (Some (canonical_piece (known_of found.now) (array (shape element.now)) v))) out.old.spare }
+    ensures { Appends (read_piece (array (shape element.now)) piece.now)
+        (λ v. frame (Some (canonical_piece (known_of found.now) (array (shape element.now)) v))) out.old out.new }
+{
+    match plain_elements(element, piece) {
+        Some((count, null, elements)) => {
+            push_plain_array(oid_of(found, element), count, null, elements, out);
+        }
+        None => push_other_array(element, piece, found, out),
+    }
+}
+
+/// The same, element by element.
+#[cycle(rewriting)]
+pub(crate) fn push_other_array(
+    element: &PgType,
+    piece: &[u8],
+    found: &FoundOids,
+    out: &mut ByteBuffer,
+)
     requires { HasRoom (read_piece (array (shape element.now)) piece.now)
         (λ v. frame (Some (canonical_piece (known_of found.now) (array (shape element.now)) v))) out.old.spare }
     ensures { Appends (read_piece (array (shape element.now)) piece.now)

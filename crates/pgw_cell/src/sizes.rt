@@ -10,6 +10,7 @@ ghost use Rattle.pgw_cell.specs.Cells.{canonical_size, read_value};
 ghost use Rattle.pgw_cell.specs.Written.{counted, size_read, cells_read, sizes_read};
 
 use crate::piece::{are_bytes, written};
+use crate::plain::plain_elements;
 use pgw_meta::PgType;
 use pgw_nested::ArrayPieces;
 use pgw_wire::{Break, RawCell, SqlError};
@@ -83,6 +84,17 @@ pub(crate) fn sized_cell(t: &PgType, cell: RawCell<'_>) -> Result<usize, Break>
 #[cycle(sizes)]
 #[inline(never)]
 pub(crate) fn sized_array(element: &PgType, piece: &[u8]) -> Result<usize, Break>
+    ensures { result ≡ size_read (piece_size (array (shape element.now))) (read_piece (array (shape element.now)) piece.now) }
+{
+    match plain_elements(element, piece) {
+        Some((_count, _null, elements)) => Ok((20 + elements.len()).min(MANY)),
+        None => sized_other_array(element, piece),
+    }
+}
+
+/// The same, element by element.
+#[cycle(sizes)]
+pub(crate) fn sized_other_array(element: &PgType, piece: &[u8]) -> Result<usize, Break>
     ensures { result ≡ size_read (piece_size (array (shape element.now))) (read_piece (array (shape element.now)) piece.now) }
 {
     match ArrayPieces::new(piece) {

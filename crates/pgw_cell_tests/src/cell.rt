@@ -4,7 +4,7 @@ ghost use Rattle.pgw_cell.specs.Built.{IsBuilt};
 
 use pgw_cell::{
     ByteList, CellFault, Datum, DatumList, DigitList, MeasureFault, PlainCell, WriteCellFault,
-    laws, measure_cell, read_cell, rewrite_cell, write_cell,
+    append_cell, laws, measure_cell, read_cell, rewrite_cell, write_cell,
 };
 use pgw_meta::{Found, FoundOids, NameText, PgType, TypeKey};
 use pgw_wire::{Break, ByteBuffer, NoMemory, RawCell};
@@ -149,10 +149,11 @@ fn cells_break_where_they_are_read(rt: HostRuntime) -> Result<(), Fail> {
     Ok(())
 }
 
-/// Two buffers, for the canonical fields of cells and for those of the values that they spell.
+/// Buffers for the canonical fields of cells, appended and rewritten, and for those of the values that they spell.
 #[derive(Drop)]
 struct Both {
     found: FoundOids,
+    appended: ByteBuffer,
     rewritten: ByteBuffer,
     written: ByteBuffer,
 }
@@ -164,6 +165,7 @@ impl Both {
         let len = measure_cell(t, cell, 64)?;
         self.rewritten.reserve(len)?;
         rewrite_cell(t, cell, &self.found, &mut self.rewritten);
+        append_cell(t, cell, 64, &self.found, &mut self.appended)?;
         let value = read_cell(self.written.alloc(), t, cell)?;
         laws::spelled_has_type(t, cell);
         write_cell(t, &value, &self.found, 64, &mut self.written)?;
@@ -191,6 +193,7 @@ fn cells_of_several_parts_are_written_in_their_canonical_form(rt: HostRuntime) -
     let alloc = rt.alloc();
     let mut both = Both {
         found: FoundOids::new(alloc),
+        appended: ByteBuffer::new(alloc),
         rewritten: ByteBuffer::new(alloc),
         written: ByteBuffer::new(alloc),
     };
@@ -198,8 +201,9 @@ fn cells_of_several_parts_are_written_in_their_canonical_form(rt: HostRuntime) -
     both.piece(&PgType::Interval, b"0123456789abcdef+")?;
     both.piece(&PgType::Numeric, b"\0\x01\xff\xff\x40\0\0\x04\0\x07\xaa")?;
     both.piece(&PgType::Numeric, b"\0\x01\0\x05\xc0\0\0\x02\0\x07")?;
-    let bytes = (both.rewritten.as_bytes(), both.written.as_bytes());
-    assert!(rt; bytes == (PARTS, PARTS));
+    let appended = both.appended.as_bytes();
+    let bytes = (appended, both.rewritten.as_bytes(), both.written.as_bytes());
+    assert!(rt; bytes == (PARTS, PARTS, PARTS));
     Ok(())
 }
 
@@ -209,6 +213,7 @@ fn cells_are_written_in_their_canonical_form(rt: HostRuntime) -> Result<(), Fail
     let text = PgType::Nullable(Box::new(alloc, PgType::Text)?);
     let mut both = Both {
         found: FoundOids::new(alloc),
+        appended: ByteBuffer::new(alloc),
         rewritten: ByteBuffer::new(alloc),
         written: ByteBuffer::new(alloc),
     };
@@ -222,8 +227,9 @@ fn cells_are_written_in_their_canonical_form(rt: HostRuntime) -> Result<(), Fail
     both.piece(&text, b"\xc3\xa9")?;
     both.cell(&text, RawCell::Null)?;
     both.piece(&citext(alloc)?, b"z")?;
-    let bytes = (both.rewritten.as_bytes(), both.written.as_bytes());
-    assert!(rt; bytes == (CANONICAL, CANONICAL));
+    let appended = both.appended.as_bytes();
+    let bytes = (appended, both.rewritten.as_bytes(), both.written.as_bytes());
+    assert!(rt; bytes == (CANONICAL, CANONICAL, CANONICAL));
     Ok(())
 }
 
@@ -246,6 +252,7 @@ fn arrays_are_written_in_their_canonical_form(rt: HostRuntime) -> Result<(), Fai
     })?;
     let mut both = Both {
         found,
+        appended: ByteBuffer::new(alloc),
         rewritten: ByteBuffer::new(alloc),
         written: ByteBuffer::new(alloc),
     };
@@ -261,8 +268,9 @@ fn arrays_are_written_in_their_canonical_form(rt: HostRuntime) -> Result<(), Fai
     let named = array(alloc, citext(alloc)?)?;
     let letter = b"\0\0\0\x01\0\0\0\0\0\0\0\x19\0\0\0\x01\0\0\0\x01\0\0\0\x01z";
     both.piece(&named, letter)?;
-    let bytes = (both.rewritten.as_bytes(), both.written.as_bytes());
-    assert!(rt; bytes == (ARRAYS, ARRAYS));
+    let appended = both.appended.as_bytes();
+    let bytes = (appended, both.rewritten.as_bytes(), both.written.as_bytes());
+    assert!(rt; bytes == (ARRAYS, ARRAYS, ARRAYS));
     Ok(())
 }
 

@@ -1,11 +1,12 @@
 -- The error with which a range or a multirange is refused is of the kind in which it breaks, if this is so of its parts.
-use Rattle.std.proofs.Common.{ℕ, List, Bool, Some, ap}
+use Rattle.std.proofs.Common.{ℕ, List, Some, ap}
 use Rattle.pgw_wire.specs.Cell.{Cell}
 use Rattle.pgw_wire.specs.declared.kind.Break.{Break}
 use Rattle.pgw_wire.specs.declared.sql_error.SqlError.{SqlError}
-use Rattle.pgw_nested.specs.Array.{NextFails, no_frame, cell_fails, kind_named}
+use Rattle.pgw_nested.specs.Array.{kind_named}
 use Rattle.pgw_nested.specs.Range.{FailsLower, no_lower_piece, lower_fails, FailsUpper, no_upper_piece, upper_fails, no_flags, fails_at_lower, fails_at_upper, RefusesRange, BreaksRange}
 use Rattle.pgw_nested.specs.Multirange.{no_count, fails_at_range, RefusesMultirange, BreaksMultirange}
+use Rattle.pgw_nested.proofs.Breaking.{behind_breaks}
 
 module _ {A : Type 0} (Spell : Cell → A → Type 0) (Refuse : Cell → SqlError → Type 0) (Broken : Break → Cell → Type 0) (kind : (c : Cell) (e : SqlError) → Refuse c e → Broken (kind_named e) c) where
   lower_breaks : (flags : ℕ) (bytes : List ℕ) (e : SqlError) → FailsLower (λ error. error) Refuse flags bytes e → FailsLower kind_named (λ c k. Broken k c) flags bytes (kind_named e)
@@ -21,19 +22,6 @@ module _ {A : Type 0} (Spell : Cell → A → Type 0) (Refuse : Cell → SqlErro
   range_kind bytes e (fails_at_lower flags rest is some f) = fails_at_lower flags rest is some (lower_breaks flags rest e f)
   range_kind bytes e (fails_at_upper flags rest behind lower value is some l s f) = fails_at_upper flags rest behind lower value is some l s (upper_breaks flags behind e f)
 
-  next_breaks : (nulls : Bool) (bytes : List ℕ) (e : SqlError) → NextFails (λ error. error) Refuse nulls bytes e → NextFails kind_named (λ c k. Broken k c) nulls bytes (kind_named e)
-  next_breaks nulls bytes e (no_frame error h is) = no_frame error h (ap kind_named is)
-  next_breaks nulls bytes e (cell_fails c behind is framed h) = cell_fails c behind is framed (kind c e h)
-
   pub multirange_kind : (bytes : List ℕ) (e : SqlError) → RefusesMultirange Spell Refuse bytes e → BreaksMultirange Spell Broken (kind_named e) bytes
   multirange_kind bytes e (no_count few is) = no_count few (ap kind_named is)
-  multirange_kind bytes e (fails_at_range ranges begins f) = fails_at_range ranges begins (record {
-    cells = f.cells;
-    values = f.values;
-    behind = f.behind;
-    fewer = f.fewer;
-    framed = f.framed;
-    is = f.is;
-    spelled = f.spelled;
-    next = next_breaks ranges.nulls f.behind e f.next;
-  })
+  multirange_kind bytes e (fails_at_range ranges begins f) = fails_at_range ranges begins (behind_breaks Spell Refuse Broken kind ranges e f)

@@ -1,13 +1,13 @@
 -- A multirange that is read range by range.
-use Rattle.std.proofs.Common.{◌≡◌, ℕ, ◌<◌, List, [], ◌∷◌, ◌++◌, Option, Some, Ok, refl, subst, arith}
+use Rattle.std.proofs.Common.{◌≡◌, ℕ, ◌<◌, Bool, List, [], ◌∷◌, ◌++◌, Option, Some, Ok, refl, ap, subst, ◌∙◌, arith}
 use Rattle.std.specs.Borrow.{Bor}
 use Rattle.pgw_wire.specs.Cell.{Cell}
 use Rattle.pgw_wire.specs.declared.sql_error.SqlError.{SqlError}
 use Rattle.pgw_meta.specs.Reading.{IsRefusal}
-use Rattle.pgw_nested.specs.Frames.{HasNoFrame}
+use Rattle.pgw_nested.specs.Frames.{frames, IsFramed, HasNoFrame}
 use Rattle.pgw_nested.specs.Array.{Elements, no_frame, cell_fails}
 use Rattle.pgw_nested.specs.Pieces.{IsNext}
-use Rattle.pgw_nested.specs.Multirange.{BeginsMultirange, IsMultirange, fails_at_range, RefusesMultirange}
+use Rattle.pgw_nested.specs.Multirange.{BeginsMultirange, IsMultirange, ReachesRange, fails_at_range, RefusesMultirange}
 use Rattle.pgw_nested.specs.RangePieces.{GivesRange}
 use Rattle.pgw_nested.proofs.ReadingOn.{SoFar, none_so_far, one_more, next_fails}
 use Rattle.pgw_nested.proofs.Refusals.{no_frame_refusal}
@@ -34,6 +34,22 @@ module _ {A : Type 0} (Spell : Cell → A → Type 0) (Refuse : Cell → SqlErro
     are = record { ranges = s.all; behind = now.rest; begins = s.begins; many = omega (arith, s.so_far.many, none); framed = s.so_far.framed; is = s.so_far.is };
     spelled = s.so_far.spelled;
   }
+
+  pub range_reached : (values : List A) (before now : Elements) (r : Option (Bor (List ℕ))) (p : Bor (List ℕ)) → RangesSoFar Spell bytes values before → r ≡ Some p → GivesRange before (Ok r) now → ReachesRange Spell bytes
+  range_reached values before now r p s is given =
+      let n = range_given before now r p is given in
+      record {
+        ranges = s.all;
+        begins = s.begins;
+        cells = s.so_far.cells;
+        values = values;
+        cell = Some p.now;
+        behind = now.rest;
+        fewer = omega (arith, s.so_far.many, n.left);
+        framed = (s.so_far.framed, subst (λ (b : Bool). IsFramed b (Some p.now)) s.so_far.nulls n.framed);
+        is = s.so_far.is ∙ ap (λ (x : List ℕ). frames s.so_far.cells ++ x) n.is;
+        spelled = s.so_far.spelled;
+      }
 
   pub range_not_given : (values : List A) (before : Elements) (e : SqlError) → RangesSoFar Spell bytes values before → 0 < before.left → HasNoFrame before.nulls before.rest e → RefusesMultirange Spell Refuse bytes e × IsRefusal e
   range_not_given values before e s some h =

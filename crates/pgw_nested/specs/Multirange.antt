@@ -2,11 +2,11 @@
 -- spells as one of its ranges, and with what it fails as one.
 use Rattle.std.specs.Prelude.{◌≡◌, ◌<◌, ◌^◌, ◌++◌, ℕ, false, List, length}
 use Rattle.std.specs.Int.{w32, to_be_bytes}
-use Rattle.pgw_wire.specs.Cell.{Cell}
+use Rattle.pgw_wire.specs.Cell.{Cell, frame}
 use Rattle.pgw_wire.specs.declared.kind.Break.{Break}
 use Rattle.pgw_wire.specs.declared.sql_error.SqlError.{SqlError}
 use Rattle.pgw_wire.specs.declared.sql_error.SqlError.TheVariants.{ShortBuffer}
-use Rattle.pgw_nested.specs.Frames.{frames, AreFramed}
+use Rattle.pgw_nested.specs.Frames.{frames, IsFramed, AreFramed}
 use Rattle.pgw_nested.specs.Array.{Elements, Each, FailsBehind, kind_named}
 
 -- so many ranges have to come in these bytes, none of which is null
@@ -35,6 +35,20 @@ pub record IsMultirange {A : Type 0} (Spell : Cell → A → Type 0) (bytes : Li
   pub cells : List Cell
   pub are : AreMultirangePieces bytes cells
   pub spelled : Each Spell cells ranges
+
+-- The frames of some ranges stand in the field, fewer than it counts, which spell values, and behind them the frame of
+-- one more, whatever that spells.
+pub record ReachesRange {A : Type 0} (Spell : Cell → A → Type 0) (bytes : List ℕ) : Type 0 where
+  pub ranges : Elements
+  pub begins : BeginsMultirange bytes ranges
+  pub cells : List Cell
+  pub values : List A
+  pub cell : Cell
+  pub behind : List ℕ
+  pub fewer : length cells < ranges.left
+  pub framed : AreFramed ranges.nulls cells × IsFramed ranges.nulls cell
+  pub is : ranges.rest ≡ frames cells ++ (frame cell ++ behind)
+  pub spelled : Each Spell cells values
 
 -- The first fault, from the left, of a piece that is the field of no multirange. `name` is how an error is told.
 pub data FailsMultirange {A E : Type 0} (name : SqlError → E) (Spell : Cell → A → Type 0) (Fail : Cell → E → Type 0)

@@ -59,7 +59,7 @@ impl<T> BoundsOf for Range<T> {
     }
 }
 
-/// Nothing is said of the upper bound of a range that was iterated to its end, as of std's.
+/// Nothing is said of the bounds of a range that was iterated to its end, as of those of std's.
 impl<T: Drop> BoundsOf for RangeInclusive<T> {
     type Item = T;
 

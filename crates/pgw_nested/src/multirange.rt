@@ -1,7 +1,8 @@
-ghost use Rattle.std.specs.Prelude.{true};
-ghost use Rattle.pgw_meta.specs.Reading.{ReadsPiece, RefusesPiece};
+ghost use Rattle.std.specs.Prelude.{◌≡◌, true, Some, Err};
+ghost use Rattle.pgw_wire.specs.declared.sql_error.SqlError.TheVariants.{NoMemory as no_memory};
+ghost use Rattle.pgw_meta.specs.Reading.{Answers, ReadsPiece, RefusesPiece};
 ghost use Rattle.pgw_nested.specs.Range.{IsRange, RefusesRange};
-ghost use Rattle.pgw_nested.specs.Multirange.{IsMultirange, RefusesMultirange};
+ghost use Rattle.pgw_nested.specs.Multirange.{IsMultirange, ReachesRange, RefusesMultirange};
 ghost use Rattle.pgw_nested.specs.RangeWritten.{WritesBoundsOf, WritesMultirange};
 
 use crate::multirange_writing::write_multirange;
@@ -26,10 +27,14 @@ impl<ST, T: FromSql<ST> + Defaultable> FromSql<Multirange<ST>> for Vec<(Bound<T>
     /// The ranges, each read as one before the next is looked at. The first fault from the left is the error:
     /// `ShortBuffer`, `NegativeSize` and `ElementBytes` as from `MultirangePieces`, and what a range is refused with.
     /// Memory is asked for as ranges are read, and not by their count.
-    fn from_sql(
-        alloc: Global,
-        value: PgValue<'_>,
-    ) -> deserialize::Result<Vec<(Bound<T>, Bound<T>)>> {
+    fn from_sql(alloc: Global, value: PgValue<'_>) -> deserialize::Result<Vec<(Bound<T>, Bound<T>)>>
+        ensures answers { Answers
+            (ReadsPiece (λ piece v. IsMultirange (ReadsPiece (IsRange T.reads T.DEFAULT)) piece v.items))
+            (RefusesPiece (RefusesMultirange (ReadsPiece (IsRange T.reads T.DEFAULT))
+            (RefusesPiece (RefusesRange T.reads T.refuses)))) true (Some value.entry.raw_value.now) result }
+        ensures memory { result ≡ Err no_memory
+            → ReachesRange (ReadsPiece (IsRange T.reads T.DEFAULT)) value.entry.raw_value.now }
+    {
         let oid = value.get_oid();
         let mut pieces = MultirangePieces::new(value.as_bytes())?;
         let mut items = Vec::new(alloc);
@@ -57,9 +62,9 @@ where
 {
     ghost writes = { λ k v. WritesMultirange (WritesBoundsOf R.is_lower R.is_upper R.Item.writes) k v.items };
 
-    /// Appends how many ranges there are, in 4 bytes, and then each, its length and its bytes, as the range of its bounds is
-    /// written. The answer is `No`. The first refusal in the order of these bytes is the error: `TooMany` with more than
-    /// 2147483647 ranges, what a range is refused with, and `TooMany` with a range of more bytes.
+    /// Appends how many ranges there are, in 4 bytes, and then each, its length and its bytes, as the range of its
+    /// bounds is written. The answer is `No`. The first refusal in the order of these bytes is the error: `TooMany` with
+    /// more than 2147483647 ranges, what a range is refused with, and `TooMany` with a range of more bytes.
     fn to_sql<L: PgMetadataLookup>(&self, out: &mut Output<'_, L>) -> serialize::Result {
         write_multirange::<ST, R::Item, R, L>(self.as_slice(), out)
     }

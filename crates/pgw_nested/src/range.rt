@@ -77,10 +77,10 @@ impl<ST, T: FromSql<ST> + Defaultable> FromSql<Range<ST>> for (Bound<T>, Bound<T
 impl<ST, T: ToSql<ST>> ToSql<Range<ST>> for (Bound<T>, Bound<T>) {
     ghost writes = { WritesRange T.writes };
 
-    /// Appends the flags, in one byte, and the bounds that are there: of each its value's length and bytes, or the length
-    /// -1 where the value is null. The answer is `No`. It never says that the range is empty. The first refusal in the
-    /// order of these bytes is the error: what a value is refused with, and `TooMany` with one of more than 2147483647
-    /// bytes.
+    /// Appends the flags, in one byte, and the bounds that are there: of each its value's length and bytes, or the
+    /// length -1 where the value is null. The answer is `No`. It never says that the range is empty. The first refusal
+    /// in the order of these bytes is the error: what a value is refused with, and `TooMany` with one of more than
+    /// 2147483647 bytes.
     fn to_sql<L: PgMetadataLookup>(&self, out: &mut Output<'_, L>) -> serialize::Result {
         write_range::<ST, T, L>(self.0.as_ref(), self.1.as_ref(), out)
     }

@@ -14,6 +14,6 @@ pub mod Found
 pub mod Covered
 pub mod LookedUp
 pub mod PlainRows
-pub mod Rewritten
+pub mod Appended
 pub mod Respelled
 pub mod Runs

@@ -15,7 +15,7 @@ use Rattle.pgw_cell.specs.Cells.{Spells, Fits, canonical_cell}
 use Rattle.pgw_tree.specs.Spells.{SpellsRow}
 use Rattle.pgw_tree.specs.Canonical.{FitsRow, canonical_cells}
 use Rattle.pgw_tree.specs.ColumnTypes.{AreBuilt, plain_cells}
-use Rattle.pgw_tree.specs.Rewriting.{canonical_fields}
+use Rattle.pgw_tree.specs.Appending.{canonical_fields}
 use Rattle.pgw_meta.specs.Known.{Known}
 
 pub spells_more : (ts : List Shape) (cells : List Cell) (vs : List Value) (t : Shape) (c : Cell) (v : Value) → length cells ≡ length ts → SpellsRow ts cells vs → Spells t c v → SpellsRow (ts ++ (t ∷ [])) (cells ++ (c ∷ [])) (vs ++ (v ∷ []))

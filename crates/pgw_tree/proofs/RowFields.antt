@@ -1,12 +1,12 @@
 -- All fields of a row: those of its columns, and those behind them.
-use Rattle.std.proofs.Common.{◌≡◌, ℕ, ◌+◌, ◌<◌, ◌≤◌, ◌^◌, List, [], ◌∷◌, ◌++◌, length, None, Some, refl, sym, ap, ◌∙◌, arith, append_assoc, append-nil, drop, lit<, subst}
+use Rattle.std.proofs.Common.{◌≡◌, ℕ, ◌<◌, ◌≤◌, ◌^◌, List, [], ◌∷◌, ◌++◌, length, None, Some, refl, sym, ap, ◌∙◌, arith, append_assoc, append-nil, drop, lit<, subst}
 use Rattle.pgw_wire.proofs.Lists.{same_rest}
 use Rattle.pgw_wire.specs.Cell.{Cell, frame, size_of}
 use Rattle.pgw_meta.specs.Shape.{Shape}
 use Rattle.pgw_cell.specs.Value.{Value}
 use Rattle.pgw_tree.specs.Spells.{SpellsRow}
 use Rattle.pgw_copy.specs.Format.{IsField, AreFields, IsRow}
-use Rattle.pgw_tree.specs.Rewriting.{HasRowFields}
+use Rattle.pgw_tree.specs.Appending.{HasRowFields}
 use Rattle.pgw_copy.proofs.Fields.{field_once}
 
 -- A row spells no more values than it has fields.
@@ -44,11 +44,6 @@ fields_once (c ∷ cs) (o ∷ os) x x' behind rest many each each' e =
 pub field_of : (cell : Cell) (most : ℕ) → most < 2 ^ 31 → size_of cell ≤ most → IsField cell (frame cell)
 field_of None most max fits = (4294967295, lit< tt, lit< tt, refl)
 field_of (Some p) most max fits = (omega (arith, max, fits), refl)
-
--- the length of a field is four bytes
-pub frame_size : (cell : Cell) → length (frame cell) ≡ 4 + size_of cell
-frame_size None = refl
-frame_size (Some p) = omega arith
 
 -- The bytes of a row behind its count are its fields.
 pub row_fields : (ts : List Shape) (cells : List Cell) (bytes : List ℕ) → IsRow cells bytes → length ts ≤ length cells → HasRowFields ts cells (drop 2 bytes)

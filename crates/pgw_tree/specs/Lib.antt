@@ -8,7 +8,7 @@ pub mod Lookups
 pub mod Causes
 pub mod Copying
 pub mod Sending
-pub mod Rewriting
+pub mod Appending
 pub mod Runs
 pub mod ReadErrors
 pub mod Plain

@@ -2,6 +2,7 @@
 //! a type are read and written as stands in `pgw_cell`, whose calls and laws are found here too.
 #![tactic(auto)]
 
+mod append;
 mod columns;
 mod fault;
 mod fields;
@@ -10,7 +11,6 @@ mod needs;
 mod next_row;
 mod plain;
 mod respell;
-mod rewrite;
 mod send_fault;
 mod shown;
 mod stream;
@@ -18,7 +18,7 @@ mod stream;
 pub use fault::CopyFault;
 pub use limits::{FIELD_MAX, Limits};
 pub use pgw_cell::{
-    ByteList, CellFault, Datum, DatumList, DigitList, MeasureFault, WriteCellFault, laws,
-    measure_cell, read_cell, rewrite_cell, write_cell,
+    AppendFault, ByteList, CellFault, Datum, DatumList, DigitList, MeasureFault, WriteCellFault,
+    append_cell, laws, measure_cell, read_cell, rewrite_cell, write_cell,
 };
 pub use stream::{Copied, recopy};

@@ -11,9 +11,9 @@ ghost use Rattle.pgw_tree.specs.Sending.{SendCause};
 ghost use Rattle.pgw_tree.specs.Copying.{Copies};
 ghost use Rattle.pgw_tree.specs.Runs.{IsNextRow, rows_fault};
 
+use crate::append::append_row;
 use crate::columns::Columns;
 use crate::plain::plain_rows;
-use crate::rewrite::push_row;
 use crate::send_fault::SendFault;
 use crate::{CopyFault, Limits};
 use pgw_copy::{CopyReader, CopyWriter, RawRow};
@@ -37,7 +37,8 @@ fn fill_row(
     }
     let buffer = writer.buffer();
     buffer.clear();
-    push_row(columns, field_max, &row.as_bytes()[2..], buffer)
+    append_row(columns, field_max, &row.as_bytes()[2..], buffer)?;
+    Ok(())
 }
 
 /// Writes the canonical row of the values that the first cells of the row spell: as it was taken where that is the one, and

@@ -20,7 +20,7 @@ pub(crate) fn behind_plain_fields<'a>(
         × IsPlainFields (known_of columns.now.found.now) field_max (column_shapes columns.now.types.now) values fields × (bytes.now ≡ fields ++ rest.now)) }
 {
     let mut rest = bytes;
-    for (_place, cell) in columns.plain.iter().enumerate() {
+    for cell in columns.plain {
         rest = cell.behind_field(field_max, rest)?;
     }
     Some(rest)

@@ -21,30 +21,31 @@ use Rattle.pgw_cell.proofs.ArrayPieces.{frame_length}
 use Rattle.pgw_cell.proofs.Counted.{is_leaf, array_broken}
 use Rattle.pgw_cell.proofs.Elements.{frame_broken, given_none, elements_many}
 use Rattle.pgw_cell.proofs.Rewriting.{cell_bytes, piece_bytes, element_bytes, room_of_piece, piece_appends, leaf_bytes, leaf_not_refused, field_written, field_length, element_room, one_element, all_appended, all_nulls, array_reads, array_piece_is, array_room, array_length, array_placed, placed_length, length_closed}
+use Rattle.pgw_cell.proofs.PlainFields.{plain_read, plain_room, plain_appends}
 use Rattle.pgw_cell.proofs.rewrite.+rewriting.Goals as goal
 
-pub push_array-place_array-flags-requires-clause-room :
-    goal.push_array-place_array-flags-requires-clause-room
-push_array-place_array-flags-requires-clause-room t c =
+pub push_other_array-place_array-flags-requires-clause-room :
+    goal.push_other_array-place_array-flags-requires-clause-room
+push_other_array-place_array-flags-requires-clause-room t c =
     let room = array_room (known_of c.args.found.now) (shape c.args.element.now) c.args.piece.now (elements_of c.in-Ok.pieces) c.args.out.now.spare c.in-Ok.ensures c.requires in
     omega (arith, room.many, c.place_length-place.ensures.spare)
 
-pub push_array-place_array-flags-requires-clause-count :
-    goal.push_array-place_array-flags-requires-clause-count
-push_array-place_array-flags-requires-clause-count t c =
+pub push_other_array-place_array-flags-requires-clause-count :
+    goal.push_other_array-place_array-flags-requires-clause-count
+push_other_array-place_array-flags-requires-clause-count t c =
     let room = array_room (known_of c.args.found.now) (shape c.args.element.now) c.args.piece.now (elements_of c.in-Ok.pieces) c.args.out.now.spare c.in-Ok.ensures c.requires in
     omega (arith, room.few, c.left.ensures)
 
-pub push_array-push_elements-null-requires : goal.push_array-push_elements-null-requires
-push_array-push_elements-null-requires t c =
+pub push_other_array-push_elements-null-requires : goal.push_other_array-push_elements-null-requires
+push_other_array-push_elements-null-requires t c =
     let known = known_of c.args.found.now in
     let s = shape c.args.element.now in
     let e = elements_of c.in-Ok.pieces in
     let room = array_room known s c.args.piece.now e c.args.out.now.spare c.in-Ok.ensures c.requires in
     (search rules, record { value = room.elements.value; reads = room.elements.reads; room = omega (arith, room.elements.room, room.many, c.place_length-place.ensures.spare, c.place_array-flags.ensures.spare); small = room.elements.small })
 
-pub push_array-say_nulls-requires : goal.push_array-say_nulls-requires
-push_array-say_nulls-requires t c =
+pub push_other_array-say_nulls-requires : goal.push_other_array-say_nulls-requires
+push_other_array-say_nulls-requires t c =
     let known = known_of c.args.found.now in
     let s = shape c.args.element.now in
     let e = elements_of c.in-Ok.pieces in
@@ -60,9 +61,9 @@ push_array-say_nulls-requires t c =
       c.place_array-flags.ensures.place,
     )
 
-pub push_array-close_length-requires-clause-there :
-    goal.push_array-close_length-requires-clause-there
-push_array-close_length-requires-clause-there t c =
+pub push_other_array-close_length-requires-clause-there :
+    goal.push_other_array-close_length-requires-clause-there
+push_other_array-close_length-requires-clause-there t c =
     let known = known_of c.args.found.now in
     let s = shape c.args.element.now in
     let e = elements_of c.in-Ok.pieces in
@@ -78,9 +79,9 @@ push_array-close_length-requires-clause-there t c =
     let long = placed_length c.args.out.now.bytes piece c.say_nulls.new.out.bytes placed in
     omega (arith, long, c.place_length-place.ensures.place)
 
-pub push_array-close_length-requires-clause-fits :
-    goal.push_array-close_length-requires-clause-fits
-push_array-close_length-requires-clause-fits t c =
+pub push_other_array-close_length-requires-clause-fits :
+    goal.push_other_array-close_length-requires-clause-fits
+push_other_array-close_length-requires-clause-fits t c =
     let known = known_of c.args.found.now in
     let s = shape c.args.element.now in
     let e = elements_of c.in-Ok.pieces in
@@ -96,13 +97,13 @@ push_array-close_length-requires-clause-fits t c =
     let long = placed_length c.args.out.now.bytes piece c.say_nulls.new.out.bytes placed in
     omega (arith, long, room.small, c.place_length-place.ensures.place)
 
-pub push_array-unreachable-requires : goal.push_array-unreachable-requires
-push_array-unreachable-requires t c =
+pub push_other_array-unreachable-requires : goal.push_other_array-unreachable-requires
+push_other_array-unreachable-requires t c =
     let s = shape c.args.element.now in
     never_both (read_piece (array s) c.args.piece.now) c.requires.value _ c.requires.reads (array_broken s c.args.piece.now c.in-Err.field-0 c.in-Err.ensures)
 
-pub push_array-returns : goal.push_array-returns
-push_array-returns t c = λ v read.
+pub push_other_array-returns : goal.push_other_array-returns
+push_other_array-returns t c = λ v read.
     let known = known_of c.args.found.now in
     let s = shape c.args.element.now in
     let e = elements_of c.in-Ok.pieces in
@@ -122,6 +123,23 @@ push_array-returns t c = λ v read.
       closed ∙ ap (λ l. c.args.out.now.bytes ++ frame (Some l)) is,
       omega (arith, frame_length (Some (canonical_piece known (array s) v)), ap length is, array_length (oids_of known s).oid cells, wrote.1, c.place_length-place.ensures.spare, c.place_array-flags.ensures.spare, c.say_nulls.ensures.spare, c.close_length.ensures.spare, room.many),
     )
+
+pub push_array-push_plain_array-requires-clause-small :
+    goal.push_array-push_plain_array-requires-clause-small
+push_array-push_plain_array-requires-clause-small t c =
+    let r = plain_read (known_of c.args.found.now) (shape c.args.element.now) c.args.piece.now c.in-Some.count c.in-Some.null c.in-Some.elements.now (λ i. omega (arith, c.type_inv.piece i)) c.in-Some.ensures in
+    (plain_room (known_of c.args.found.now) (shape c.args.element.now) c.args.piece.now c.in-Some.count c.in-Some.null c.in-Some.elements.now c.args.out.now.spare r c.requires).small
+
+pub push_array-push_plain_array-requires-clause-room :
+    goal.push_array-push_plain_array-requires-clause-room
+push_array-push_plain_array-requires-clause-room t c =
+    let r = plain_read (known_of c.args.found.now) (shape c.args.element.now) c.args.piece.now c.in-Some.count c.in-Some.null c.in-Some.elements.now (λ i. omega (arith, c.type_inv.piece i)) c.in-Some.ensures in
+    (plain_room (known_of c.args.found.now) (shape c.args.element.now) c.args.piece.now c.in-Some.count c.in-Some.null c.in-Some.elements.now c.args.out.now.spare r c.requires).room
+
+pub push_array-returns-in-Some : goal.push_array-returns-in-Some
+push_array-returns-in-Some t c =
+    let r = plain_read (known_of c.args.found.now) (shape c.args.element.now) c.args.piece.now c.in-Some.count c.in-Some.null c.in-Some.elements.now (λ i. omega (arith, c.type_inv.piece i)) c.in-Some.ensures in
+    plain_appends (known_of c.args.found.now) (shape c.args.element.now) c.args.piece.now c.in-Some.count c.in-Some.null c.in-Some.elements.now c.oid_of.result c.args.out.now c.push_plain_array.new.out r c.oid_of.ensures c.push_plain_array.ensures.bytes c.push_plain_array.ensures.spare
 
 pub push_cell-push_piece-requires : goal.push_cell-push_piece-requires
 push_cell-push_piece-requires t c =

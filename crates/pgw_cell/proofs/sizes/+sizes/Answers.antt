@@ -12,6 +12,7 @@ use Rattle.pgw_cell.specs.Cells.{canonical_size, read_value}
 use Rattle.pgw_cell.specs.Written.{written_bytes, counted, size_read, cells_read, sizes_read}
 use Rattle.pgw_cell.proofs.Elements.{next_read, next_broken, frame_broken, none_left, given_none}
 use Rattle.pgw_cell.proofs.Counted.{is_leaf, leaf_sizes, cell_sizes, array_sizes, array_broken, sizes_more, sizes_done, size_ok, size_err}
+use Rattle.pgw_cell.proofs.PlainFields.{plain_size}
 use Rattle.pgw_cell.proofs.sizes.+sizes.Goals as goal
 
 pub sized-returns-in-Array : goal.sized-returns-in-Array
@@ -30,11 +31,16 @@ sized-returns-in-Err t c =
     ap (size_read length) (sym (ap written_bytes c.in-Err.is) ∙ c.written.ensures)
     ∙ leaf_sizes (shape c.args.t.now) c.args.piece.now (is_leaf c.args.t.now c.in_default.not-Nullable c.in_default.not-Named c.in_default.not-Array) (λ i. omega (arith, c.type_inv.piece i))
 
-pub sized_array-returns-in-Ok : goal.sized_array-returns-in-Ok
-sized_array-returns-in-Ok t c = c.sized_elements.ensures ∙ array_sizes (shape c.args.element.now) c.args.piece.now (elements_of c.in-Ok.pieces) c.in-Ok.ensures
+pub sized_array-returns-in-Some : goal.sized_array-returns-in-Some
+sized_array-returns-in-Some t c =
+    ap Ok c.min.ensures
+    ∙ plain_size (shape c.args.element.now) c.args.piece.now c.in-Some._count c.in-Some._null c.in-Some.elements.now (λ i. omega (arith, c.type_inv.piece i)) c.in-Some.ensures
 
-pub sized_array-returns-in-Err : goal.sized_array-returns-in-Err
-sized_array-returns-in-Err t c =
+pub sized_other_array-returns-in-Ok : goal.sized_other_array-returns-in-Ok
+sized_other_array-returns-in-Ok t c = c.sized_elements.ensures ∙ array_sizes (shape c.args.element.now) c.args.piece.now (elements_of c.in-Ok.pieces) c.in-Ok.ensures
+
+pub sized_other_array-returns-in-Err : goal.sized_other_array-returns-in-Err
+sized_other_array-returns-in-Err t c =
     let s = array (shape c.args.element.now) in
     ap Err c.break_of.ensures ∙ sym (ap (size_read (piece_size s)) (array_broken (shape c.args.element.now) c.args.piece.now c.in-Err.error c.in-Err.ensures))
 

@@ -9,13 +9,13 @@ use Rattle.pgw_tree.proofs.PlainRows.{plain_more}
 use Rattle.pgw_meta.specs.NamedOids.{known_of}
 use Rattle.pgw_tree.proofs.plain.behind_plain_fields.Goals as goal
 
-pub loop-place-preserved : goal.loop-place-preserved
-loop-place-preserved c =
+pub loop-cell-preserved : goal.loop-cell-preserved
+loop-cell-preserved c =
     let ts = column_shapes c.args.columns.now.types.now in
-    let i = c.loop-place._place in
-    let inv = c.loop-place.invariant in
+    let i = c.loop-cell.cell-index in
+    let inv = c.loop-cell.invariant in
     let t = get_or ts i (scalar int4) in
-    let within : i < length ts = omega (arith, c.loop-place-test.true, ap length c.args.columns.now.each ∙ length-map ts (plain_cell (known_of c.args.columns.now.found.now))) in
+    let within : i < length ts = omega (arith, c.loop-cell-test.true, ap length c.args.columns.now.each ∙ length-map ts (plain_cell (known_of c.args.columns.now.found.now))) in
     let f = c.in_ok-rest.ensures (known_of c.args.columns.now.found.now) t (plain_at (known_of c.args.columns.now.found.now) c.args.columns.now.plain.now ts i _ (scalar int4) c.args.columns.now.each within) in
     let rest = c.in_ok-rest.rest.now in
     record {
@@ -29,7 +29,7 @@ loop-place-preserved c =
 pub returns : goal.returns
 returns c =
     let ts = column_shapes c.args.columns.now.types.now in
-    let inv = c.loop-place.invariant in
+    let inv = c.loop-cell.invariant in
     let known = ap length c.args.columns.now.each ∙ length-map ts (plain_cell (known_of c.args.columns.now.found.now)) in
-    let all : take c.loop-place._place ts ≡ ts = take_all c.loop-place._place ts (omega (arith, c.loop-place-test.false, known)) in
+    let all : take c.loop-cell.cell-index ts ≡ ts = take_all c.loop-cell.cell-index ts (omega (arith, c.loop-cell-test.false, known)) in
     record { some = (inv.fields, inv.values, subst (λ (us : List Shape). IsPlainFields (known_of c.args.columns.now.found.now) c.args.field_max us inv.values inv.fields) all inv.plain, inv.is) }

@@ -5,15 +5,15 @@ use Rattle.pgw_tree.proofs.Respelled.{respelled_row_more}
 use Rattle.pgw_meta.specs.NamedOids.{known_of}
 use Rattle.pgw_tree.proofs.respell.respell_rows.Goals as goal
 
-pub loop-goes_on-preserved : goal.loop-goes_on-preserved
-loop-goes_on-preserved c =
+pub loop-rows-preserved : goal.loop-rows-preserved
+loop-rows-preserved c =
     let ts = column_shapes c.args.columns.now.types.now in
-    let inv = c.loop-goes_on.invariant in
+    let inv = c.loop-rows.invariant in
     let r = c.in-Some.ensures.some in
     let columns : length ts ≡ length c.args.columns.now.types.now = length-map c.args.columns.now.types.now shape in
     record {
-      limit = omega (arith, c.if-rows-most.true);
+      limit = omega (arith, c.loop-rows-test.true);
       front = inv.front ++ r.row;
       is = inv.is ∙ ap (λ l. inv.front ++ l) r.is ∙ sym (append_assoc inv.front r.row c.in-Some.behind.now);
-      respelled = respelled_row_more (known_of c.args.columns.now.found.now) c.args.field_max ts c.loop-goes_on.rows c.loop-goes_on.out.bytes inv.front r.row c.respell_row.new.out.bytes r.values (omega (arith, c.requires.max)) (omega (arith, columns, c.args.columns.now.few)) inv.respelled r.is_row r.appended;
+      respelled = respelled_row_more (known_of c.args.columns.now.found.now) c.args.field_max ts c.loop-rows.rows c.loop-rows.out.bytes inv.front r.row c.respell_row.new.out.bytes r.values (omega (arith, c.requires.max)) (omega (arith, columns, c.args.columns.now.few)) inv.respelled r.is_row r.appended;
     }
