@@ -1,4 +1,6 @@
 pub mod RecordFields
+pub mod Excluded
+pub mod Breaking
 pub mod WorkedRecords
 mod Refusals
 mod MembersRead

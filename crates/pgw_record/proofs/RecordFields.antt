@@ -20,13 +20,13 @@ use Rattle.pgw_record.specs.Reading.{behind_oid, component_at, read_member, read
 abbrev Cut : Type 0
 Cut = Result (Component × List ℕ) SqlError
 
-component_again : (c : Component) (rest : List ℕ) → IsComponent c → component_at (component_bytes c ++ rest) ≡ Ok (c, rest)
+pub component_again : (c : Component) (rest : List ℕ) → IsComponent c → component_at (component_bytes c ++ rest) ≡ Ok (c, rest)
 unfolding component_at
 component_again c rest h =
     ap (λ (x : List ℕ). behind_oid (word_at x)) (append_assoc (to_be_bytes w32 c.oid) (frame c.cell) rest) ∙
     rw (word_again c.oid (frame c.cell ++ rest) h.1, ne_eqb c.oid 0 h.0, cell_again true c.cell rest h.2) refl
 
-no_component_again : (bytes : List ℕ) (error : SqlError) → HasNoComponent bytes error → component_at bytes ≡ Err error
+pub no_component_again : (bytes : List ℕ) (error : SqlError) → HasNoComponent bytes error → component_at bytes ≡ Err error
 unfolding component_at
 no_component_again bytes error (no_oid (inl h)) = rw (lt-ltb _ _ h.0) (ap Err (sym h.1))
 no_component_again bytes error (no_oid (inr h)) = ap (λ (x : List ℕ). behind_oid (word_at x)) h.1 ∙ rw (word_again 0 h.0 (omega arith)) (ap Err (sym h.2))

@@ -1,5 +1,6 @@
-//! The codecs of records: tuples of one to eight members, each with its own type. `RecordPieces` takes a record apart. It
-//! is written by `begin_record` and `begin_component` and by the calls of `pgw_nested` that write a cell.
+//! The codecs of records: tuples of one to eight members, each of its own type. `RecordPieces` takes a record apart,
+//! and `WriteTuple` writes one. `begin_record` and `begin_component` begin its parts, to be written with the calls of
+//! `pgw_nested` that set the lengths of pieces once they are known.
 #![tactic(auto)]
 
 mod members;

@@ -1,7 +1,8 @@
 ghost use Rattle.std.specs.Prelude.{◌≡◌, ◌≤◌, ◌+◌, ◌||◌, ℕ, List, Bool, false};
 ghost use Rattle.pgw_wire.specs.declared.sql_error.SqlError.{SqlError as Refusal};
 ghost use Rattle.pgw_meta.specs.Reading.{Answers, ReadsPiece, RefusesPiece, cell_of_value};
-ghost use Rattle.pgw_record.specs.Record.{Component, SpellsMember, SpellsNone, RefusesMember, RefusesNone, RefusesRecord};
+ghost use Rattle.pgw_record.specs.Record.{Component, SpellsMember, SpellsNone};
+ghost use Rattle.pgw_record.specs.Record.{RefusesMember, RefusesNone, RefusesRecord};
 ghost use Rattle.pgw_record.specs.Members.{AreMembers, AreRecordMembers};
 
 use crate::RecordPieces;

@@ -1,6 +1,7 @@
 ghost use Rattle.std.specs.Prelude.{◌||◌, false};
 ghost use Rattle.pgw_meta.specs.Reading.{ReadsPiece, RefusesPiece};
-ghost use Rattle.pgw_record.specs.Record.{IsRecord, SpellsMember, SpellsNone, RefusesRecord, RefusesMember, RefusesNone};
+ghost use Rattle.pgw_record.specs.Record.{IsRecord, SpellsMember, SpellsNone};
+ghost use Rattle.pgw_record.specs.Record.{RefusesRecord, RefusesMember, RefusesNone};
 
 use crate::members::read_tuple;
 use crate::sql_types::Record;
@@ -11,7 +12,8 @@ use std::alloc::Global;
 // A record is read as a tuple of as many members as it has components. The implementations differ in that number alone:
 // each writes its members as pairs in pairs, of which `read_tuple` reads any number.
 
-/// The field of a record of one component: the count 1, an oid, and the component's length and bytes.
+/// The field of a record of one component: the count 1, in 4 bytes, and the oid of the component's type, in 4 bytes,
+/// its length, in 4 bytes, and its bytes.
 impl<ST1, A: FromSql<ST1>> FromSql<Record<(ST1,)>> for (A,) {
     ghost reads = { ReadsPiece (λ piece v. IsRecord (SpellsMember A.reads v.0 SpellsNone) piece) };
 
@@ -19,9 +21,9 @@ impl<ST1, A: FromSql<ST1>> FromSql<Record<(ST1,)>> for (A,) {
 
     ghost MEMORY = { A.MEMORY || false };
 
-    /// The component, read as the member. The first fault from the left is the error: `TupleCount` with another count of
-    /// components, `ShortBuffer`, `ZeroOid`, `NegativeSize`, `ElementBytes` and `Surplus` as from `RecordPieces`, and what
-    /// the member is refused with.
+    /// The component, read as the member. The first fault from the left is the error: `ShortBuffer`, `TupleCount`,
+    /// `ZeroOid`, `NegativeSize`, `ElementBytes` and `Surplus` as from `RecordPieces`, and what the member is refused
+    /// with.
     fn from_sql(alloc: Global, value: PgValue<'_>) -> Result<(A,)> {
         <(A,) as FromSql<Record<(ST1,)>>>::from_nullable_sql(alloc, Some(value))
     }

@@ -44,9 +44,9 @@ fn take_component(bytes: &[u8]) -> Result<(RecordPiece<'_>, &[u8])>
 /// The components of a record's field, of which each is read once, in order. It lends them from the field, and takes no
 /// memory.
 ///
-/// The field is how many components there are, in 4 bytes, and then each component: the oid of its type, in 4 bytes, the
-/// length of its piece, in 4 bytes, and as many bytes. The length -1 is a null's, which has no bytes. Nothing stands
-/// behind the last.
+/// The field is how many components there are, in 4 bytes, and then each component: the oid of its type, in 4 bytes,
+/// the length of its piece, in 4 bytes, and as many bytes. The length -1 is a null's, which has no bytes. Nothing
+/// stands behind the last.
 #[derive(Drop)]
 pub struct RecordPieces<'a> {
     rest: &'a [u8],
@@ -71,10 +71,10 @@ impl<'a> RecordPieces<'a> {
         Ok(RecordPieces { rest, left })
     }
 
-    /// The next component. None where all were given, and nothing stands behind them. `ShortBuffer` where the field ends
-    /// inside the oid or the length, `ZeroOid` with an oid of 0, `NegativeSize` with a length below -1, `ElementBytes` with
-    /// a length that is more than the bytes behind it, and `Surplus` with bytes behind the last component. A call that is
-    /// refused changes nothing, so that the next one is refused alike.
+    /// The next component. None where all were given, and nothing stands behind them. `ShortBuffer` where the field
+    /// ends inside the oid or the length, `ZeroOid` with an oid of 0, `NegativeSize` with a length below -1,
+    /// `ElementBytes` with a length that is more than the bytes behind it, and `Surplus` with bytes behind the last
+    /// component. A call that is refused changes nothing, so that the next one is refused alike.
     pub fn next_piece(&mut self) -> Result<Option<RecordPiece<'a>>>
         ensures { GivesComponent (coming_of self.old) result (coming_of self.new) }
     {

@@ -24,10 +24,10 @@ pub trait WriteTuple<ST> {
     /// bytes, and its bytes. A member that is null is written as the length -1. The answer is `No`. The start of the
     /// output has to lie in its buffer.
     ///
-    /// The first refusal in the order of these bytes is the error: of each member `UnknownType` where the key of its type
-    /// is not known, what it is refused with, and `TooMany` with more than 2147483647 bytes. `LookupFailed` comes only
-    /// where the lookup's count of faults rises. The bytes that stood before the call stand there behind it, and those
-    /// that a refused call appended are for the caller to take back. No call changes what is known.
+    /// The first refusal in the order of these bytes is the error: of each member `UnknownType` where the key of its
+    /// type is not known, what it is refused with, and `TooMany` with more than 2147483647 bytes. `LookupFailed` comes
+    /// only where the lookup's count of faults rises. The bytes that stood before the call stand there behind it, and
+    /// those that a refused call appended are for the caller to take back. No call changes what is known.
     fn write_tuple<L: PgMetadataLookup>(&self, out: &mut Output<'_, L>) -> Result
         requires { StartsWithin out.old }
         ensures wrote { (bytes : List ℕ) × (out.new.out.now.bytes ≡ out.old.out.now.bytes ++ bytes)
