@@ -1,5 +1,5 @@
 -- The bytes of a record that is written member by member.
-use Rattle.std.proofs.Common.{◌≡◌, ◌⊎◌, inl, inr, ℕ, ◌+◌, List, [], ◌∷◌, ◌++◌, length, Some, Result, Ok, Err, refl, sym, ap, subst, ◌∙◌, append_assoc, append-nil, arith}
+use Rattle.std.proofs.Common.{◌≡◌, inl, inr, ℕ, List, [], ◌∷◌, ◌++◌, Some, Result, Ok, Err, refl, sym, ap, subst, ◌∙◌, append_assoc, append-nil, arith}
 use Rattle.std.specs.Int.{w32, to_be_bytes}
 use Rattle.pgw_wire.specs.declared.is_null.IsNull.TheVariants.{No}
 use Rattle.pgw_meta.specs.Known.{Known, Knowledge, Oids}
@@ -9,8 +9,8 @@ use Rattle.pgw_meta.specs.declared.serialize.WriteError.{WriteError}
 use Rattle.pgw_meta.specs.declared.serialize.WriteError.TheVariants.{NoMemory}
 use Rattle.pgw_nested.specs.Written.{IsRefusedWith}
 use Rattle.pgw_nested.proofs.Writings.{refused_for}
-use Rattle.pgw_record.specs.Record.{Component, component_bytes, components_bytes}
-use Rattle.pgw_record.specs.Written.{IsComponentOf, RefusesComponent, WrittenMembers, no_member, member, WritesRecord, WroteCell, WroteComponent, WroteMembers}
+use Rattle.pgw_record.specs.Record.{component_bytes, components_bytes}
+use Rattle.pgw_record.specs.Written.{RefusesComponent, WrittenMembers, no_member, member, WritesRecord, WroteCell, WroteComponent, WroteMembers}
 
 module _ {A : Type 0} (naming : Naming) (writes : Writes A) (k : Known) (v : A) where
   -- A cell that was written with the oid of the type is the member's component.

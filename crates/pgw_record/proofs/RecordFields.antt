@@ -1,17 +1,17 @@
 -- The fields of records are read as their definitions say, where the cells of their components are.
-use Rattle.std.proofs.Common.{◌≡◌, ◌≢◌, ◌⊎◌, inl, inr, ℕ, ◌+◌, ◌<◌, ◌^◌, Bool, true, false, cond, eqb, List, [], ◌∷◌, ◌++◌, length, Option, None, Some, Result, Ok, Err, refl, sym, ap, subst, ◌∙◌, append_assoc, arith}
+use Rattle.std.proofs.Common.{◌≡◌, ◌⊎◌, inl, inr, ℕ, ◌+◌, ◌<◌, ◌^◌, Bool, true, false, cond, eqb, List, [], ◌∷◌, ◌++◌, length, Option, None, Some, Result, Ok, Err, refl, sym, ap, subst, ◌∙◌, append_assoc, arith}
 use Rattle.std.specs.Int.{w32, to_be_bytes, cast_signed}
 use Rattle.std.proofs.lemmas.Bool.{lt-ltb, eq-eqb, eqb-true, eqb-false, ne_eqb}
 use Rattle.pgw_wire.specs.Cell.{Cell, frame}
 use Rattle.pgw_wire.specs.declared.kind.Break.{Break}
 use Rattle.pgw_wire.specs.declared.sql_error.SqlError.{SqlError}
-use Rattle.pgw_wire.specs.declared.sql_error.SqlError.TheVariants.{ShortBuffer, TupleCount, ZeroOid, Surplus}
+use Rattle.pgw_wire.specs.declared.sql_error.SqlError.TheVariants.{ShortBuffer, TupleCount, ZeroOid}
 use Rattle.pgw_nested.specs.Array.{kind_named}
 use Rattle.pgw_nested.specs.Reading.{◌>>=◌, named, word_at, cell_at}
 use Rattle.pgw_nested.proofs.Exact.{IsExact, ok_is, err_is}
 use Rattle.pgw_nested.proofs.Steps.{bind_ok, bind_err}
 use Rattle.pgw_nested.proofs.Cutting.{IsBytes, IsBytesCell, TakesWord, word_again, word_takes, word_none, cell_again, no_frame_again, cell_takes, no_frame_is}
-use Rattle.pgw_record.specs.Record.{Component, IsComponent, AreComponents, component_bytes, components_bytes, SpellsMember, SpellsNone, HasNoComponent, no_oid, no_cell, FailsMember, no_component, cell_fails, fails_behind, FailsNone, BeginsNoRecord, no_count, other_count, FailsRecord, fails_in_front, fails_at_member, BreaksRecord}
+use Rattle.pgw_record.specs.Record.{Component, IsComponent, AreComponents, component_bytes, components_bytes, SpellsMember, SpellsNone, HasNoComponent, no_oid, no_cell, FailsMember, no_component, cell_fails, fails_behind, FailsNone, no_count, other_count, FailsRecord, fails_in_front, fails_at_member, BreaksRecord}
 use Rattle.pgw_record.specs.Members.{AreMembers, AreRecordMembers}
 use Rattle.pgw_record.specs.Reading.{behind_oid, component_at, read_member, read_none, behind_count, read_record_by, read_record}
 

@@ -1,5 +1,5 @@
 -- What a record itself is refused with is no want of memory.
-use Rattle.std.proofs.Common.{◌≡◌, ◌⊎◌, inl, inr, ℕ, List, true, sym, subst}
+use Rattle.std.proofs.Common.{inl, inr, ℕ, List, true}
 use Rattle.pgw_wire.specs.declared.sql_error.SqlError.{SqlError}
 use Rattle.pgw_meta.specs.Reading.{IsRefusal}
 use Rattle.pgw_nested.proofs.Refusals.{refusal_is, no_frame_refusal}

@@ -1,6 +1,6 @@
 -- What the definitions of records say of single pieces: which components a record has, with which error a piece is
 -- refused that is none, and what components are written as. The oids are those of `int4`, 23, and of `text`, 25.
-use Rattle.std.proofs.Common.{◌≡◌, ◌≢◌, ℕ, pos, negsuc, List, [], ◌∷◌, None, Some, Result, Ok, Err, refl, lit<, arith}
+use Rattle.std.proofs.Common.{◌≡◌, ℕ, pos, negsuc, List, [], ◌∷◌, None, Some, Result, Ok, Err, refl, lit<, arith}
 use Rattle.pgw_wire.specs.Cell.{Cell}
 use Rattle.pgw_wire.specs.declared.kind.Break.{Break}
 use Rattle.pgw_wire.specs.declared.kind.Break.TheVariants as kind

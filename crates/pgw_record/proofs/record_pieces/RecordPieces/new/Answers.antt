@@ -1,4 +1,4 @@
-use Rattle.std.proofs.Common.{◌≡◌, ◌^◌, ◌<◌, ◌≤◌, ℕ, ℤ, ap, sym, ◌∙◌, arith}
+use Rattle.std.proofs.Common.{ℤ, ap, ◌∙◌}
 use Rattle.std.specs.Int.{w32, cast_signed}
 use Rattle.pgw_wire.specs.declared.sql_error.SqlError.TheVariants.{TupleCount}
 use Rattle.pgw_nested.proofs.Cut.{told_again}
