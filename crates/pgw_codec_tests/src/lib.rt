@@ -9,6 +9,8 @@ mod numeric;
 #[cfg(test)]
 mod range;
 #[cfg(test)]
+mod record;
+#[cfg(test)]
 mod result;
 #[cfg(test)]
 mod row;

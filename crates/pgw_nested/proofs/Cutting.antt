@@ -70,7 +70,7 @@ word_takes bytes w fits e = cases (ltb (length bytes) 4) refl e
         let s = split_word bytes (ltb-false _ _ t) fits in
         subst (λ (x : ℕ × List ℕ). TakesWord bytes x) (some_is _ _ h) (record { is = s.0; fits = s.1; rest = bytes_dropped 4 bytes fits })
 
-word_none : (bytes : List ℕ) → word_at bytes ≡ None → length bytes < 4
+pub word_none : (bytes : List ℕ) → word_at bytes ≡ None → length bytes < 4
 word_none bytes e = cases (ltb (length bytes) 4) refl e
   where
     cases : (b : Bool) → ltb (length bytes) 4 ≡ b → cond {A = Option (ℕ × List ℕ)} b None (Some (from_be_bytes w32 (take 4 bytes), drop 4 bytes)) ≡ None → length bytes < 4

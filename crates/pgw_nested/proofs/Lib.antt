@@ -8,7 +8,7 @@ pub mod Breaking
 pub mod WorkedArrays
 mod Begun
 pub mod ReadingOn
-mod Refusals
+pub mod Refusals
 pub mod Writings
 pub mod RangeFields
 pub mod Counted
@@ -17,7 +17,7 @@ pub mod RangeCanonical
 pub mod RangeBreaking
 pub mod WorkedRanges
 pub mod Steps
-mod Cut
+pub mod Cut
 pub mod Bounds
-mod RangeWritings
+pub mod RangeWritings
 mod RangesRead

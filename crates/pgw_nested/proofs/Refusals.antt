@@ -5,7 +5,7 @@ use Rattle.pgw_meta.specs.Reading.{IsRefusal}
 use Rattle.pgw_nested.specs.Frames.{HasNoFrame, no_length, negative_length, past_the_end}
 use Rattle.pgw_nested.specs.Array.{BeginsNoArray, too_short, too_short_for_one, many_dimensions}
 
-refusal_is : (e f : SqlError) → e ≡ f → IsRefusal f → IsRefusal e
+pub refusal_is : (e f : SqlError) → e ≡ f → IsRefusal f → IsRefusal e
 refusal_is e f is h = subst (λ (x : SqlError). IsRefusal x) (sym is) h
 
 pub no_frame_refusal : (nulls : Bool) (bytes : List ℕ) (e : SqlError) → HasNoFrame nulls bytes e → IsRefusal e

@@ -17,7 +17,7 @@ fn elements_counted(count: u32) -> u32
 }
 
 /// The field that a cell inside of a value is, with the oid of that value. None for a null.
-pub(crate) fn value_of(cell: RawCell<'_>, oid: NonZeroU32) -> Option<PgValue<'_>>
+pub fn value_of(cell: RawCell<'_>, oid: NonZeroU32) -> Option<PgValue<'_>>
     ensures cell { cell_of_value result ≡ cell_of cell.entry }
     ensures oid { IfSome result (λ value. value.type_oid ≡ oid) }
 {

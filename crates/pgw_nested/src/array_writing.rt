@@ -13,8 +13,10 @@ use pgw_meta::serialize::{self, ToSql, WriteError};
 use pgw_meta::{HasSqlType, Pg, PgMetadataLookup};
 use pgw_wire::{IsNull, Output};
 
-/// Writes an element: its length and its bytes, or the length of a null, where what was written of it is taken back.
-pub(crate) fn write_element<ST, T: ToSql<ST>, L: PgMetadataLookup>(
+/// Writes a value inside of another: its length and its bytes, or the length of a null, where what was written of it is
+/// taken back. The answer is that of its type. What the value is refused with is the error, and `TooMany` with one of more
+/// than 2147483647 bytes.
+pub fn write_element<ST, T: ToSql<ST>, L: PgMetadataLookup>(
     item: &T,
     out: &mut Output<'_, L>,
 ) -> serialize::Result

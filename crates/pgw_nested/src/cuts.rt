@@ -14,7 +14,7 @@ const NULL: u32 = 0xffff_ffff;
 pub(crate) const NEGATIVE: u32 = 0x8000_0000;
 
 /// The number in the first four bytes, and the rest. `ShortBuffer` exactly where fewer are there.
-pub(crate) fn take_word(bytes: &[u8]) -> Result<(u32, &[u8])>
+pub fn take_word(bytes: &[u8]) -> Result<(u32, &[u8])>
     ensures { MatchResult result (λ x. (bytes.now ≡ to_be_bytes w32 x.0 ++ x.1.now) × (x.0 < 2 ^ 32))
         (λ e. (e ≡ short_buffer) × (length bytes.now < 4)) }
 {
@@ -51,7 +51,7 @@ pub(crate) fn take_frame(bytes: &[u8]) -> Result<(&[u8], &[u8])>
 
 /// The cell whose frame stands in front of the bytes, and the rest. Where nulls may stand, the length -1 is a null's,
 /// and else all is as for a piece.
-pub(crate) fn take_cell(nulls: bool, bytes: &[u8]) -> Result<(RawCell<'_>, &[u8])>
+pub fn take_cell(nulls: bool, bytes: &[u8]) -> Result<(RawCell<'_>, &[u8])>
     ensures { MatchResult result
         (λ x. IsFramed nulls (cell_of x.0) × (bytes.now ≡ frame (cell_of x.0) ++ x.1.now))
         (λ e. HasNoFrame nulls bytes.now e) }

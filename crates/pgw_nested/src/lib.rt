@@ -23,8 +23,10 @@ pub mod sql_types;
 mod std_ranges;
 
 pub use array::Items;
-pub use array_pieces::ArrayPieces;
+pub use array_pieces::{ArrayPieces, value_of};
+pub use array_writing::write_element;
 pub use bounds_of::BoundsOf;
+pub use cuts::{take_cell, take_word};
 pub use marks::{ArrayMark, PieceMark, begin_array, begin_piece, end_piece, null_flag, null_piece};
 pub use multirange_pieces::MultirangePieces;
 pub use multirange_writing::begin_multirange;

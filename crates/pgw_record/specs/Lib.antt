@@ -1,0 +1,5 @@
+pub mod Record
+pub mod Pieces
+pub mod Members
+pub mod Written
+pub mod Reading
