@@ -56,11 +56,18 @@ const IGNORED: u8 = 0xe0;
 const FIELD_MAX: u64 = 2147483647;
 /// How many columns the count of a row can state.
 const COLUMNS_MAX: usize = 32767;
+/// How many records are open in the text of a type at most, and how many suffixes stand behind each
+/// of its bases.
+const DEPTH_MAX: usize = 31;
 
 enum Fault {
     NotText,
     /// The place of the word, and what is wrong with it.
     Word(usize, &'static str),
+    /// The place of the word, and what is wrong with it as the text of a type.
+    Type(usize, TypeFault),
+    /// The key of a type whose oid is needed and not given, or given as 0.
+    UnknownType(String),
     BadHeader,
     BadFlags(u32),
     Truncated,
@@ -80,8 +87,9 @@ type Result<T, E = Fault> = std::result::Result<T, E>;
 impl Fault {
     fn status(&self) -> u8 {
         match self {
-            Fault::NotText | Fault::Word(..) => 1,
+            Fault::NotText | Fault::Word(..) | Fault::Type(..) => 1,
             Fault::Read | Fault::Write => 3,
+            Fault::UnknownType(_) => 4,
             Fault::OutOfMemory => 5,
             _ => 2,
         }
@@ -93,6 +101,10 @@ impl Display for Fault {
         match self {
             Fault::NotText => write!(f, "arguments are not text"),
             Fault::Word(place, what) => write!(f, "word {place}: {what}"),
+            Fault::Type(place, TypeFault { what, byte }) => {
+                write!(f, "word {place}: {what} at {byte}")
+            }
+            Fault::UnknownType(key) => write!(f, "unknown type {key}"),
             Fault::BadHeader => write!(f, "bad header"),
             Fault::BadFlags(flags) => write!(f, "bad flags {flags:08X}"),
             Fault::Truncated => write!(f, "truncated"),
@@ -165,26 +177,21 @@ struct Column {
 }
 
 impl Column {
-    fn named(word: &str) -> Option<Column> {
-        let (word, nullable) = without(word, "?");
-        let (word, is_array) = without(word, "[]");
-        let (word, element_nullable) = if is_array {
-            without(word, "?")
-        } else {
-            (word, false)
-        };
-        let (of, oid) = Type::named(word)?;
-        Some(Column {
-            of: if is_array { Type::Array } else { of },
+    /// The column of a type that has no fault. `oid` is that of the type in front of its suffixes.
+    fn new(of: &TypeRead, oid: u32) -> Column {
+        let (suffixes, nullable) = without(of.suffixes, "?");
+        let (element_suffixes, is_array) = without(suffixes, "[]");
+        Column {
+            of: if is_array { Type::Array } else { of.base },
             nullable,
-            has_ranges: matches!(of, Type::Range(_) | Type::Multirange(_)),
+            has_ranges: matches!(of.base, Type::Range(_) | Type::Multirange(_)),
             element: Element {
-                of,
-                nullable: element_nullable,
+                of: of.base,
+                nullable: !element_suffixes.is_empty(),
                 oid: oid.to_be_bytes(),
             },
             usual: usize::MAX,
-        })
+        }
     }
 
     /// The same, where a field has at most `field_max` bytes.
@@ -219,11 +226,11 @@ impl Column {
     }
 }
 
-/// The word without that ending, and whether it had it.
-fn without<'a>(word: &'a str, ending: &str) -> (&'a str, bool) {
-    match word.strip_suffix(ending) {
+/// The text without that ending, and whether it had it.
+fn without<'a>(text: &'a str, ending: &str) -> (&'a str, bool) {
+    match text.strip_suffix(ending) {
         Some(bare) => (bare, true),
-        None => (word, false),
+        None => (text, false),
     }
 }
 
@@ -773,20 +780,194 @@ fn read_number(digits: &str, most: u64, before: Option<u64>) -> Result<Option<u6
     }
 }
 
-/// Whether a text is a name: 1 to 63 letters of ASCII, digits and `_`.
-fn is_name(text: &str) -> bool {
-    let is_part = |byte: u8| byte.is_ascii_alphanumeric() || byte == b'_';
-    (1..=63).contains(&text.len()) && text.bytes().all(is_part)
+/// Whether a byte may stand in a name.
+fn is_name_byte(byte: &u8) -> bool {
+    byte.is_ascii_alphanumeric() || *byte == b'_'
 }
 
-/// The schema and the name in `[schema.]name:OID:ARRAYOID`.
-fn read_oids(text: &str) -> Option<(&str, &str)> {
+/// Whether a text is a name: 1 to 63 letters of ASCII, digits and `_`.
+fn is_name(text: &str) -> bool {
+    (1..=63).contains(&text.len()) && text.as_bytes().iter().all(is_name_byte)
+}
+
+/// The schema and the name in `[schema.]name`.
+fn split_key(key: &str) -> (&str, &str) {
+    key.split_once('.').unwrap_or(("public", key))
+}
+
+/// The oid that a word gives a type.
+struct Given<'a> {
+    /// The type's schema and name.
+    key: (&'a str, &'a str),
+    oid: u32,
+}
+
+/// Reads `[schema.]name:OID:ARRAYOID`. No column needs the oid of the type's arrays.
+fn read_oids(text: &str) -> Option<Given<'_>> {
     let (key, oids) = text.split_once(':')?;
     let (oid, array_oid) = oids.split_once(':')?;
-    let (schema, name) = key.split_once('.').unwrap_or(("public", key));
-    let is_oid = |digits| read_number(digits, u32::MAX.into(), None).is_ok();
-    let holds = is_name(schema) && is_name(name) && is_oid(oid) && is_oid(array_oid);
-    holds.then_some((schema, name))
+    let key = split_key(key);
+    let number = |digits| read_number(digits, u32::MAX.into(), None).ok()?;
+    let (oid, _) = (number(oid)? as u32, number(array_oid)?);
+    (is_name(key.0) && is_name(key.1)).then_some(Given { key, oid })
+}
+
+/// What is wrong with a text as that of a type, and at which byte.
+struct TypeFault {
+    what: &'static str,
+    byte: usize,
+}
+
+/// Which oid a type has.
+enum Oid<'a> {
+    Known(u32),
+    /// That which a word gives the type of this key.
+    Of(&'a str),
+}
+
+/// What the text of a type tells.
+struct TypeRead<'a> {
+    /// The type in front of the suffixes, and its oid.
+    base: Type,
+    oid: Oid<'a>,
+    suffixes: &'a str,
+}
+
+impl TypeRead<'_> {
+    /// What is wrong with the type, of the outermost type that has a fault. None is too deep, since
+    /// so many suffixes have a fault before.
+    fn fault(&self) -> Option<&'static str> {
+        (1..=self.suffixes.len()).rev().find_map(|end| {
+            let suffixes = &self.suffixes[..end];
+            if suffixes.ends_with("??") {
+                Some("schema fault 3")
+            } else if suffixes.ends_with("[][]") || suffixes.ends_with("[]?[]") {
+                Some("schema fault 4")
+            } else {
+                None
+            }
+        })
+    }
+
+    /// The oid of the type in front of the suffixes, where an array has to state it.
+    fn oid(&self, given: &[Given]) -> Result<u32> {
+        match self.oid {
+            Oid::Known(oid) => Ok(oid),
+            Oid::Of(_) if !self.suffixes.contains("[]") => Ok(0),
+            Oid::Of(key) => {
+                let split = split_key(key);
+                match given.iter().find(|given| given.key == split) {
+                    Some(&Given { oid, .. }) if oid != 0 => Ok(oid),
+                    _ => Err(Fault::UnknownType(key.to_owned())),
+                }
+            }
+        }
+    }
+}
+
+/// The text of a type, which is read from left to right.
+struct TypeText<'a> {
+    text: &'a str,
+    /// Where the next token begins.
+    place: usize,
+}
+
+impl<'a> TypeText<'a> {
+    /// Reads all of a text. The answer is None where a record stands in the type.
+    fn read(text: &'a str) -> Result<Option<TypeRead<'a>>, TypeFault> {
+        let mut text = TypeText { text, place: 0 };
+        let read = text.read_type(0)?;
+        text.take(str::is_empty)?;
+        Ok(read)
+    }
+
+    fn fault<T>(&self, what: &'static str) -> Result<T, TypeFault> {
+        let byte = self.place;
+        Err(TypeFault { what, byte })
+    }
+
+    /// The next token: as many bytes of a name as stand there, `[]`, or another character. It is
+    /// empty at the end.
+    fn token(&self) -> &'a str {
+        let rest = &self.text[self.place..];
+        let length = match rest.bytes().take_while(is_name_byte).count() {
+            0 if rest.starts_with("[]") => 2,
+            0 => rest.chars().next().map_or(0, char::len_utf8),
+            length => length,
+        };
+        &rest[..length]
+    }
+
+    /// Takes the next token, where it is one that may stand there.
+    fn take(&mut self, may_stand: impl Fn(&str) -> bool) -> Result<(), TypeFault> {
+        let token = self.token();
+        if !may_stand(token) {
+            return self.fault("bad type");
+        }
+        self.place += token.len();
+        Ok(())
+    }
+
+    /// Takes the next token, where it is this one, and answers whether it is.
+    fn take_if(&mut self, token: &str) -> bool {
+        self.take(|next| next == token).is_ok()
+    }
+
+    /// Reads a type that stands in so many records.
+    fn read_type(&mut self, records: usize) -> Result<Option<TypeRead<'a>>, TypeFault> {
+        let base = self.read_base(records)?;
+        let start = self.place;
+        let mut suffixes = 0;
+        while let token @ ("?" | "[]") = self.token() {
+            if suffixes == DEPTH_MAX {
+                return self.fault("type too deep");
+            }
+            self.place += token.len();
+            suffixes += 1;
+        }
+        let suffixes = &self.text[start..self.place];
+        Ok(base.map(|(base, oid)| TypeRead {
+            base,
+            oid,
+            suffixes,
+        }))
+    }
+
+    /// Reads what stands in front of the suffixes: a name, a record, or a key between `@` and `:` and
+    /// then `text` or a record.
+    fn read_base(&mut self, records: usize) -> Result<Option<(Type, Oid<'a>)>, TypeFault> {
+        let token = self.token();
+        if let Some((base, oid)) = Type::named(token) {
+            self.place += token.len();
+            return Ok(Some((base, Oid::Known(oid))));
+        }
+        if self.take_if("@") {
+            let start = self.place;
+            self.take(is_name)?;
+            if self.take_if(".") {
+                self.take(is_name)?;
+            }
+            let key = &self.text[start..self.place];
+            self.take(|token| token == ":")?;
+            if self.take_if("text") {
+                return Ok(Some((Type::Text, Oid::Of(key))));
+            }
+        }
+        self.read_record(records)?;
+        Ok(None)
+    }
+
+    fn read_record(&mut self, records: usize) -> Result<(), TypeFault> {
+        if records == DEPTH_MAX && self.token() == "(" {
+            return self.fault("type too deep");
+        }
+        self.take(|token| token == "(")?;
+        self.read_type(records + 1)?;
+        while self.take_if(",") {
+            self.read_type(records + 1)?;
+        }
+        self.take(|token| token == ")")
+    }
 }
 
 fn read_words(words: &[String]) -> Result<Plan> {
@@ -796,11 +977,11 @@ fn read_words(words: &[String]) -> Result<Plan> {
         Some(_) => return Err(Fault::Word(0, "unknown command")),
     }
     let (mut rows, mut field) = (None, None);
-    let mut given = Vec::new();
-    let mut columns = Vec::new();
+    let mut given: Vec<Given> = Vec::new();
+    let mut types = Vec::new();
     for (place, word) in words.iter().enumerate().skip(1) {
         let fault = |what| Fault::Word(place, what);
-        let option = if columns.is_empty() {
+        let option = if types.is_empty() {
             word.split_once('=')
         } else {
             None
@@ -811,35 +992,43 @@ fn read_words(words: &[String]) -> Result<Plan> {
                 field = read_number(digits, FIELD_MAX, field).map_err(fault)?
             }
             Some(("oid", text)) => {
-                let key = read_oids(text).ok_or(fault("bad oid word"))?;
-                if given.contains(&key) {
+                let read = read_oids(text).ok_or(fault("bad oid word"))?;
+                if given.iter().any(|before| before.key == read.key) {
                     return Err(fault("repeated option"));
                 }
                 given.try_reserve(1)?;
-                given.push(key);
+                given.push(read);
             }
             _ => {
-                columns.try_reserve(1)?;
-                columns.push(Column::named(word).ok_or(fault("not supported yet"))?);
+                let read = TypeText::read(word).map_err(|wrong| Fault::Type(place, wrong))?;
+                types.try_reserve(1)?;
+                types.push(read.ok_or(fault("not supported yet"))?);
             }
         }
     }
-    match columns.len() {
-        0 => Err(Fault::Word(words.len(), "missing type")),
-        1..=COLUMNS_MAX => {
-            let field_max = field.unwrap_or(FIELD_MAX) as usize;
-            for column in &mut columns {
-                *column = column.within(field_max);
-            }
-            Ok(Plan {
-                rows_max: rows.unwrap_or(u64::MAX),
-                field_max,
-                shortens: columns.iter().any(Column::shortens),
-                columns,
-            })
-        }
-        _ => Err(Fault::Word(words.len(), "schema fault 2")),
+    match types.len() {
+        0 => return Err(Fault::Word(words.len(), "missing type")),
+        1..=COLUMNS_MAX => {}
+        _ => return Err(Fault::Word(words.len(), "schema fault 2")),
     }
+    let first = words.len() - types.len();
+    for (column, of) in types.iter().enumerate() {
+        if let Some(what) = of.fault() {
+            return Err(Fault::Word(first + column, what));
+        }
+    }
+    let field_max = field.unwrap_or(FIELD_MAX) as usize;
+    let mut columns = Vec::new();
+    columns.try_reserve_exact(types.len())?;
+    for of in &types {
+        columns.push(Column::new(of, of.oid(&given)?).within(field_max));
+    }
+    Ok(Plan {
+        rows_max: rows.unwrap_or(u64::MAX),
+        field_max,
+        shortens: columns.iter().any(Column::shortens),
+        columns,
+    })
 }
 
 /// The `N` bytes at a place, where they are there.
