@@ -1,5 +1,5 @@
 -- What is read of all words, with none of which anything is wrong by itself.
-use Rattle.std.proofs.Common.{◌≡◌, ◌≢◌, ◌⊎◌, inl, inr, ◌+◌, ◌-◌, ◌<◌, ◌≤◌, ◌==◌, nat_lt, ℕ, List, [], ◌∷◌, length, codes, Option, None, Some, option_map, Result, Ok, Err, IfErr, true, false, refl, sym, ap, subst, ◌∙◌, arith}
+use Rattle.std.proofs.Common.{◌≡◌, ◌≢◌, ◌⊎◌, inl, inr, ◌+◌, ◌-◌, ◌<◌, ◌≤◌, ◌==◌, nat_lt, ℕ, List, [], ◌∷◌, length, codes, Option, None, Some, option_map, Ok, Err, IfErr, true, false, refl, sym, ap, subst, ◌∙◌, arith}
 use Rattle.std.proofs.lemmas.Bool.{eqb-true, eqb-false, ltb-true, ltb-false}
 use Rattle.std.specs.List.{filter_map}
 use Rattle.std.specs.Option.{unwrap_or, option_map_or}
@@ -9,13 +9,13 @@ use Rattle.pgw_meta.specs.Shape.{Shape}
 use Rattle.pgw_meta.specs.declared.found_oids.Found.{Found}
 use Rattle.pgw_meta.specs.declared.schema.SchemaError.{SchemaError}
 use Rattle.pgw_meta.specs.declared.schema.SchemaError.TheVariants.{NoMemory as no_memory_left}
-use Rattle.pgw_tree.specs.Limits.{Limits, default_limits}
+use Rattle.pgw_tree.specs.Limits.{default_limits}
 use Rattle.pgcopy.specs.declared.words.WordFault.{WordFault}
 use Rattle.pgcopy.specs.declared.words.WordFault.TheVariants.{NoTypes, Schema}
 use Rattle.pgcopy.specs.declared.words.WordError.{WordError}
 use Rattle.pgcopy.specs.declared.words.WordError.TheVariants.{Fault, NoMemory}
 use Rattle.pgcopy.specs.declared.words.WordsRead.{WordsRead}
-use Rattle.pgcopy.specs.Words.{type_of, entry_of, digits_in, limits_in, place_of, IsOfAColumn, PlacedFault, placed, columns_fault, fault_of_all, first_fault, plan_of_texts}
+use Rattle.pgcopy.specs.Words.{type_of, entry_of, digits_in, place_of, IsOfAColumn, placed, columns_fault, fault_of_all, first_fault, plan_of_texts}
 use Rattle.pgcopy.specs.WordsRead.{AreRead, AreColumns}
 use Rattle.pgcopy.proofs.ReadingWords.{types_few}
 use Rattle.pgcopy.proofs.ColumnFaults.{of_column, columns_wrong, no_columns, too_many}

@@ -1,15 +1,14 @@
 -- What is wrong with the columns of words together, and where.
-use Rattle.std.proofs.Common.{◌≡◌, ◌≢◌, ◌+◌, ◌<◌, ◌≤◌, ◌==◌, nat_lt, ℕ, List, [], ◌∷◌, ◌++◌, length, Option, None, Some, option_map, Bool, true, false, refl, sym, ap, subst, ◌∙◌, arith, if◌then◌else◌}
+use Rattle.std.proofs.Common.{◌≡◌, ◌≢◌, ◌+◌, ◌<◌, ◌≤◌, ◌==◌, nat_lt, ℕ, List, [], ◌∷◌, length, Option, None, Some, Bool, true, false, refl, sym, subst, ◌∙◌, arith, if◌then◌else◌}
 use Rattle.std.proofs.lemmas.Bool.{eqb-true, ne_eqb, ltb-true, lt-ltb}
 use Rattle.std.proofs.lemmas.Option.{none-some}
-use Rattle.std.specs.Option.{option_or}
 use Rattle.pgw_meta.specs.Shape.{Shape, scalar, nullable, array, range, multirange, composite, named, count_shapes}
 use Rattle.pgw_meta.specs.Schema.{Placed, walk, width_fault, part_fault, fault_at, first_fault, columns_fault as faults_of_columns, schema_fault, fault_number, IsValidSchema, is_nullable, is_array, without_null, has_ranges, may_be_named}
 use Rattle.pgw_meta.specs.declared.schema.SchemaError.{SchemaError}
-use Rattle.pgw_meta.specs.declared.schema.SchemaError.TheVariants.{NoColumns, TooManyColumns, NestedNullable, NestedArray, BadRange, EmptyRecord, WideRecord, BadNamed, TooDeep, NoMemory}
+use Rattle.pgw_meta.specs.declared.schema.SchemaError.TheVariants.{TooManyColumns, NestedNullable, NestedArray, BadRange, EmptyRecord, WideRecord, BadNamed, TooDeep, NoMemory}
 use Rattle.pgw_meta.proofs.Faults.{valid_without_fault, no_fault_where_valid}
 use Rattle.pgcopy.specs.declared.words.WordFault.TheVariants.{NoTypes, Schema}
-use Rattle.pgcopy.specs.Words.{place_of, IsOfAColumn, PlacedFault, placed, columns_fault}
+use Rattle.pgcopy.specs.Words.{place_of, IsOfAColumn, placed, columns_fault}
 
 -- a fault of this column
 pub record IsAt (column : ℕ) (e : SchemaError) : Type 0 where

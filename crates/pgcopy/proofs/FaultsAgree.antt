@@ -1,5 +1,5 @@
 -- What is wrong with words as it is said, and as it is found, is the same.
-use Rattle.std.proofs.Common.{◌≡◌, ◌≢◌, ◌+◌, ◌-◌, ◌&&◌, ℕ, List, [], ◌∷◌, ◌++◌, length, map, codes, Option, None, Some, option_map, Bool, true, false, refl, sym, ap, ap₂, subst, ◌∙◌, arith}
+use Rattle.std.proofs.Common.{◌≡◌, ◌≢◌, ◌+◌, ◌-◌, ℕ, List, [], ◌∷◌, ◌++◌, length, map, codes, Option, None, Some, option_map, Bool, true, false, refl, sym, ap, ◌∙◌, arith}
 use Rattle.std.proofs.lemmas.Bool.{false≢true}
 use Rattle.std.proofs.lemmas.List.{length-append, length-map}
 use Rattle.std.proofs.lemmas.List.Elements.{filter_map-append}
@@ -9,11 +9,11 @@ use Rattle.std.specs.List.{filter_map, list_all}
 use Rattle.std.specs.Str.{bytes_eq}
 use Rattle.pgw_meta.specs.Shape.{Shape}
 use Rattle.pgcopy.specs.declared.words.WordFault.{WordFault}
-use Rattle.pgcopy.specs.declared.words.WordFault.TheVariants.{NoCommand, UnknownCommand}
-use Rattle.pgcopy.specs.Words.{type_of, is_option, is_option_behind, option_fault, type_fault_of, word_fault, IsFaultAs, PlanData, PlacedFault, placed, columns_fault, IsFaultOfAll, fault_of_all, IsFaultBetween, fault_between, IsFirstFault}
+use Rattle.pgcopy.specs.declared.words.WordFault.TheVariants.{UnknownCommand}
+use Rattle.pgcopy.specs.Words.{type_of, is_option, is_option_behind, word_fault, IsFaultAs, PlanData, PlacedFault, placed, columns_fault, IsFaultOfAll, fault_of_all, IsFaultBetween, fault_between, IsFirstFault}
 use Rattle.pgcopy.proofs.Options.{differs}
 use Rattle.pgcopy.proofs.TypeNames.{type_fault_is, type_fault_read, columns_are, columns_read}
-use Rattle.pgcopy.proofs.FirstFaults.{AreGood, IsFirstFound, no_some}
+use Rattle.pgcopy.proofs.FirstFaults.{AreGood, IsFirstFound}
 use Rattle.pgcopy.proofs.AskedFor.{AskFor, asked, nothing_asked, types_are, options_name_none}
 
 some_is : {A : Type 0} {x y : A} → Some x ≡ Some y → x ≡ y

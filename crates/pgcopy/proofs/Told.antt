@@ -14,7 +14,7 @@ use Rattle.pgcopy.specs.Runs.{MetFault}
 use Rattle.pgcopy.specs.declared.words.WordFault.{WordFault}
 use Rattle.pgcopy.specs.declared.report.Outcome.{Outcome}
 use Rattle.pgcopy.specs.declared.report.Outcome.TheVariants.{BadWord, Fault}
-use Rattle.pgcopy.specs.declared.report.Status.TheVariants.{Words as status_words, Refused as status_refused, UnknownType as status_unknown_type, NoMemory as status_no_memory}
+use Rattle.pgcopy.specs.declared.report.Status.TheVariants.{Words as status_words, Refused as status_refused, NoMemory as status_no_memory}
 use Rattle.pgcopy.specs.Report.{fault_status, status_of}
 
 -- A value has what every value has.

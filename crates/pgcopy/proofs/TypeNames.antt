@@ -1,13 +1,11 @@
 -- The type of a column that a word is the text of, and what is wrong with one that is none, as it is read.
-use Rattle.std.proofs.Common.{◌≡◌, ◌≢◌, ◌⊎◌, inl, inr, ◌+◌, ◌<◌, ◌≤◌, ◌==◌, nat_lt, ℕ, List, [], ◌∷◌, ◌++◌, length, map, codes, Option, None, Some, option_map, Result, Ok, Err, Bool, true, false, refl, sym, ap, ap₂, subst, ◌∙◌, arith, if◌then◌else◌}
+use Rattle.std.proofs.Common.{◌≡◌, ◌≢◌, ◌+◌, ◌==◌, ℕ, List, [], ◌∷◌, ◌++◌, map, Option, None, Some, Result, Ok, Err, Bool, true, false, refl, sym, ap, ap₂, subst, ◌∙◌, arith}
 use Rattle.std.proofs.lemmas.Bool.{false≢true, or_parts}
 use Rattle.std.proofs.lemmas.Option.{none-some}
 use Rattle.std.proofs.lemmas.List.Folds.{list_any-append}
-use Rattle.std.specs.Bool.{⊤, IsTrue, IsFalse}
 use Rattle.std.specs.List.{AllByRecursion, AllZip, filter_map, list_any}
-use Rattle.std.specs.Option.{option_or, IfSome, IfNone}
-use Rattle.std.specs.Result.{result_ok, result_err}
-use Rattle.pgw_meta.specs.Shape.{Shape, scalar, nullable, array, range, multirange, composite, named, Shapes, no_shapes, shape_then}
+use Rattle.std.specs.Option.{IfSome, IfNone}
+use Rattle.pgw_meta.specs.Shape.{Shape, scalar, nullable, array, range, multirange, composite, named, no_shapes, shape_then}
 use Rattle.pgw_cell.specs.Built.{IsBuilt}
 use Rattle.pgw_notation.specs.Tokens.{Token, question, brackets, at_sign, colon, token_bytes, tokens, joined}
 use Rattle.pgw_notation.specs.Notation.{notation, key_notation, IsWritable}

@@ -1,4 +1,4 @@
-ghost use Rattle.std.specs.Prelude.{◌≡◌, ◌≢◌, ◌↔◌, ◌⊎◌, ◌+◌, ◌-◌, ℕ, ◌≤◌, ◌<◌, [], ◌∷◌, ◌++◌, length, map, codes, string_bytes, Option, None, Some, is_some, option_map, Ok, Err, true, IfOk, IfErr, IfSome, MatchResult};
+ghost use Rattle.std.specs.Prelude.{◌≡◌, ◌≢◌, ◌↔◌, ◌⊎◌, ◌+◌, ◌-◌, ◌≤◌, ◌<◌, [], ◌∷◌, ◌++◌, map, codes, string_bytes, Option, None, Some, is_some, option_map, Ok, Err, true, IfOk, IfErr, IfSome, MatchResult};
 ghost use Rattle.std.specs.List.{filter_map, list_all};
 ghost use Rattle.std.specs.Option.{unwrap_or};
 ghost use Rattle.pgw_meta.specs.NamedOids.{known_of};
@@ -8,7 +8,7 @@ ghost use Rattle.pgw_meta.specs.Schema.{schema_fault, fault_number};
 ghost use Rattle.pgw_tree.specs.ColumnTypes.{AreBuilt};
 ghost use Rattle.pgw_tree.specs.Limits.{default_limits};
 ghost use Rattle.pgcopy.specs.OidWords.{given_entry};
-ghost use Rattle.pgcopy.specs.Words.{has_record, behind, is_option, type_of, as_word_fault, type_fault_of, entry_of, number_of, option_fault, word_fault, place_of, fault_of_all, first_fault, PlanData, IsPlan, HasNoPlan, PlacedFault, placed, IsFirstFault, IsOfAColumn, plan_of, texts};
+ghost use Rattle.pgcopy.specs.Words.{has_record, behind, is_option, type_of, as_word_fault, type_fault_of, entry_of, number_of, option_fault, word_fault, place_of, first_fault, PlanData, IsPlan, HasNoPlan, PlacedFault, placed, IsFirstFault, IsOfAColumn, plan_of, texts};
 ghost use Rattle.pgcopy.specs.WordsRead.{AreRead, AreColumns, plan_data};
 
 use crate::numbers::read_number;

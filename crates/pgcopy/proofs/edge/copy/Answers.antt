@@ -10,7 +10,7 @@ use Rattle.pgw_tree.proofs.Excluded.{excluded}
 use Rattle.pgcopy.specs.declared.report.Status.{Status}
 use Rattle.pgcopy.specs.declared.report.Status.TheVariants.{Copied as status_copied, Words as status_words, Refused as status_refused, Outside as status_outside, UnknownType as status_unknown_type, NoMemory as status_no_memory}
 use Rattle.pgcopy.specs.Report.{fault_status}
-use Rattle.pgcopy.specs.Words.{texts, PlanData, missing, canonical_rows}
+use Rattle.pgcopy.specs.Words.{PlanData, missing, canonical_rows}
 use Rattle.pgcopy.specs.Runs.{MetFault}
 use Rattle.pgcopy.proofs.Looked.{no_lookup, says_of_stream}
 use Rattle.std.specs.Io.Buffered.{writer_inner, writer_buffer}
