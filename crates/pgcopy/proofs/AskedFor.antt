@@ -1,24 +1,25 @@
--- What words ask for that have no fault, but for how many columns there are.
+-- What words ask for that have no fault, but for what is wrong with their columns together.
 use Rattle.std.proofs.Common.{◌≡◌, ◌⊎◌, inl, inr, ℕ, ◌&&◌, List, [], ◌∷◌, ◌++◌, map, codes, Option, None, Some, Bool, true, false, refl, sym, ap, ◌∙◌, subst, rules, if◌then◌else◌}
 use Rattle.std.proofs.lemmas.Bool.{and_parts}
 use Rattle.std.proofs.lemmas.List.{append-nil, append_assoc, map-append}
 use Rattle.std.proofs.lemmas.List.Elements.{filter_map-append}
 use Rattle.std.proofs.lemmas.List.Folds.{list_all-append}
 use Rattle.std.specs.List.{filter_map, list_all}
-use Rattle.std.specs.Option.{is_some, is_none, option_map_or}
+use Rattle.std.specs.Option.{is_some, option_map_or}
 use Rattle.std.specs.Result.{result_err}
 use Rattle.std.specs.Str.Parse.{digits_value}
 use Rattle.pgw_meta.specs.NamedOids.{known_of}
 use Rattle.pgw_meta.specs.Shape.{Shape}
 use Rattle.pgw_meta.specs.declared.found_oids.Found.{Found}
 use Rattle.pgw_tree.specs.Limits.{default_limits}
-use Rattle.pgcopy.specs.declared.words.WordFault.TheVariants.{Repeated, BadOid, NotYet}
+use Rattle.pgcopy.specs.declared.words.WordFault.TheVariants.{Repeated, BadOid}
 use Rattle.pgcopy.specs.Numbers.{is_number}
 use Rattle.pgcopy.specs.OidWords.{entry_key}
-use Rattle.pgcopy.proofs.Entries.{AreSpelled, entry_some, entries_are, spelled_kept, spelled_added, entry_at, types_give_none, AreOnce, once_added, once_at}
+use Rattle.pgcopy.proofs.Entries.{none_twice, AreSpelled, entry_some, entries_are, spelled_kept, spelled_added, entry_at, types_give_none, AreOnce, once_added, once_at}
 use Rattle.pgcopy.proofs.ReadingWords.{type_is_plain, type_is_no_option, option_is_no_type, rows_no_field, rows_no_oid, field_no_oid, and_false}
 use Rattle.pgcopy.specs.Words.{type_of, behind, is_option, IsSet, PlanData, entry_of, number_of, digits_in, number_fault, oid_fault, option_fault, word_fault, number_in, limits_in}
 use Rattle.pgcopy.proofs.FirstFaults.{split, nothing, no_some}
+use Rattle.pgcopy.proofs.TypeNames.{named_unless_fault, no_fault_where_named}
 
 -- the first element of a list
 abbrev first_of : {A : Type 0} → List A → Option A
@@ -33,7 +34,7 @@ digits_first front (word ∷ words) = by (behind front word) refl (digits_first 
     by None is more = rw is more
     by (Some digits) is more = rw is refl
 
--- the words behind the command ask for this, but for how many columns there are
+-- the words behind the command ask for this, but for what is wrong with their columns together
 pub record AskFor (words : List (List ℕ)) (plan : PlanData) : Type 0 where
   pub options : List (List ℕ)
   pub types : List (List ℕ)
@@ -95,7 +96,7 @@ set_is front most limit words h = ap (λ r. option_map_or (digits_value 10) r mo
     by (digits ∷ again ∷ more) s = absurd s
 
 -- the columns are the types that the words name, and no option stands among these
-types_are : (types : List (List ℕ)) (columns : List Shape) → map type_of types ≡ map Some columns → filter_map type_of types ≡ columns
+pub types_are : (types : List (List ℕ)) (columns : List Shape) → map type_of types ≡ map Some columns → filter_map type_of types ≡ columns
 types_are [] [] e = refl
 types_are [] (t ∷ columns) e = cc
 types_are (word ∷ types) [] e = cc
@@ -127,7 +128,7 @@ no_type_yet options (word ∷ types) (t ∷ columns) e all =
     let both : true ≡ false = sym here.0 ∙ type_is_no_option word t first in
     absurd (cc)
 
-options_name_none : (options : List (List ℕ)) → list_all is_option options ≡ true → filter_map type_of options ≡ []
+pub options_name_none : (options : List (List ℕ)) → list_all is_option options ≡ true → filter_map type_of options ≡ []
 options_name_none [] h = refl
 options_name_none (word ∷ options) h =
     let parts = and_parts (is_option word) (list_all is_option options) h in
@@ -230,9 +231,8 @@ with_option before word plan p none option good = by_rows (behind (codes "rows="
 with_word : (before : List (List ℕ)) (word : List ℕ) (plan : PlanData) → AskFor before plan → word_fault before word ≡ None → (next : PlanData) × AskFor (before ++ word ∷ []) next
 with_word before word plan p good = by (list_all is_option before && is_option word) refl
   where
-    of_type : (r : Option Shape) → type_of word ≡ r → (if is_none r then Some NotYet else None) ≡ None → (next : PlanData) × AskFor (before ++ word ∷ []) next
-    of_type None is e = absurd (no_some (sym e))
-    of_type (Some t) is e = (record plan { columns = plan.columns ++ t ∷ [] }, with_type before word t plan p is)
+    of_type : (t : Shape) × (type_of word ≡ Some t) → (next : PlanData) × AskFor (before ++ word ∷ []) next
+    of_type (t, is) = (record plan { columns = plan.columns ++ t ∷ [] }, with_type before word t plan p is)
 
     by : (b : Bool) → (list_all is_option before && is_option word) ≡ b → (next : PlanData) × AskFor (before ++ word ∷ []) next
     by true is =
@@ -240,7 +240,10 @@ with_word before word plan p good = by (list_all is_option before && is_option w
         let none = no_type_yet p.options p.types plan.columns p.columns (sym (ap (list_all is_option) p.is) ∙ all.0) in
         let fine : option_fault before word ≡ None = rw is at good in
         with_option before word plan p none all.1 (ap (λ ws. option_fault ws word) (sym (p.is ∙ ap (λ ts. p.options ++ ts) none ∙ append-nil p.options)) ∙ fine)
-    by false is = of_type (type_of word) refl (rw is at good)
+    by false is = of_type (named_unless_fault word (rw is at good))
+
+pub nothing_asked : AskFor [] (record { limits = default_limits; entries = []; columns = [] })
+nothing_asked = record { options = []; types = []; is = refl; known = refl; rows = refl; field = refl; entries = refl; once = none_twice; columns = refl }
 
 -- Words with which nothing is wrong ask for something.
 pub asked : (before after : List (List ℕ)) (plan : PlanData) → AskFor before plan
@@ -290,7 +293,7 @@ fine_word words plan p front word back e = by (split p.options p.types front wor
     by (inr s) =
         let named = type_at p.types plan.columns s.0 word back p.columns s.2 in
         let mixed : (list_all is_option front && is_option word) ≡ false = ap (λ b. list_all is_option front && b) (type_is_no_option word named.0 named.1) ∙ and_false (list_all is_option front) in
-        rw (mixed, named.1) refl
+        rw mixed (no_fault_where_named word named.0 named.1)
 
 -- What words ask for is what reading finds in them, options and types alike.
 pub what_is : (words : List (List ℕ)) (plan : PlanData) → AskFor words plan → (limits_in words ≡ plan.limits) × (filter_map entry_of words ≡ plan.entries) × (filter_map type_of words ≡ plan.columns)

@@ -1,8 +1,7 @@
--- The first fault of words is what reading them from left to right finds.
+-- The first fault that reading words from left to right finds.
 use Rattle.std.proofs.Common.{◌≡◌, ◌⊎◌, inl, inr, ℕ, List, [], ◌∷◌, ◌++◌, Option, None, Some, refl, sym, ap, ◌∙◌, subst}
 use Rattle.std.proofs.lemmas.List.{append-nil, append_assoc}
-use Rattle.pgcopy.specs.declared.words.WordFault.{WordFault}
-use Rattle.pgcopy.specs.Words.{PlacedFault, IsFirstFault, fault_between, first_fault}
+use Rattle.pgcopy.specs.Words.{PlacedFault, fault_between, first_fault}
 
 -- where an element of two lists, one behind the other, stands
 pub split : {A : Type 0} (xs ys front : List A) (x : A) (back : List A) → xs ++ ys ≡ front ++ x ∷ back
@@ -40,29 +39,26 @@ good_with before word after good none front w back e = by (split before (word �
     by (inl s) = fault_any front w back s.0 ∙ good front w s.0 s.1
     by (inr s) = at_end s.0 s.1 s.2
 
-some_is : {A : Type 0} {x y : A} → Some x ≡ Some y → x ≡ y
-some_is e = cc
+-- This is found at its place, and nothing in front of it.
+pub record IsFirstFound (words : List (List ℕ)) (wrong : PlacedFault) : Type 0 where
+  pub before : List (List ℕ)
+  pub after : List (List ℕ)
+  pub is : words ≡ before ++ after
+  pub fault : fault_between before after ≡ Some wrong
+  pub first : AreGood before
 
 pub no_some : {A : Type 0} {x : A} → None ≡ Some x → ⊥
 no_some e = cc
 
-pub first_is : (before after : List (List ℕ)) (wrong : PlacedFault) → AreGood before → first_fault before after ≡ Some wrong → IsFirstFault (before ++ after) wrong
-first_is before [] wrong good e = by (fault_between before []) refl
-  where
-    by : (r : Option WordFault) → fault_between before [] ≡ r → IsFirstFault (before ++ []) wrong
-    by None is = absurd (no_some (rw is at e))
-    by (Some fault) is =
-        let same = some_is (rw is at e) in
-        record { before = before; after = []; is = refl; place = sym (ap (λ w. w.place) same); fault = is ∙ ap (λ w. Some w.fault) same; first = good }
+pub first_is : (before after : List (List ℕ)) (wrong : PlacedFault) → AreGood before → first_fault before after ≡ Some wrong → IsFirstFound (before ++ after) wrong
+first_is before [] wrong good e = record { before = before; after = []; is = refl; fault = e; first = good }
 first_is before (word ∷ after) wrong good e = by (fault_between before (word ∷ after)) refl (first_is (before ++ word ∷ []) after wrong)
   where
-    by : (r : Option WordFault) → fault_between before (word ∷ after) ≡ r
-        → (AreGood (before ++ word ∷ []) → first_fault (before ++ word ∷ []) after ≡ Some wrong → IsFirstFault ((before ++ word ∷ []) ++ after) wrong)
-        → IsFirstFault (before ++ word ∷ after) wrong
-    by None is more = subst (λ ws. IsFirstFault ws wrong) (append_assoc before (word ∷ []) after) (more (good_with before word after good is) (rw is at e))
-    by (Some fault) is more =
-        let same = some_is (rw is at e) in
-        record { before = before; after = word ∷ after; is = refl; place = sym (ap (λ w. w.place) same); fault = is ∙ ap (λ w. Some w.fault) same; first = good }
+    by : (r : Option PlacedFault) → fault_between before (word ∷ after) ≡ r
+        → (AreGood (before ++ word ∷ []) → first_fault (before ++ word ∷ []) after ≡ Some wrong → IsFirstFound ((before ++ word ∷ []) ++ after) wrong)
+        → IsFirstFound (before ++ word ∷ after) wrong
+    by None is more = subst (λ ws. IsFirstFound ws wrong) (append_assoc before (word ∷ []) after) (more (good_with before word after good is) (rw is at e))
+    by (Some fault) is more = record { before = before; after = word ∷ after; is = refl; fault = is ∙ (rw is at e); first = good }
 
 -- where the words in front are good, the first fault stands behind them
 pub skip : (seen before after : List (List ℕ)) → AreGood (seen ++ before) → first_fault seen (before ++ after) ≡ first_fault (seen ++ before) after
@@ -72,23 +68,19 @@ skip seen (word ∷ before) after good =
     let same : (seen ++ word ∷ []) ++ before ≡ seen ++ word ∷ before = append_assoc seen (word ∷ []) before in
     rw none (skip (seen ++ word ∷ []) before after (subst AreGood (sym same) good) ∙ ap (λ s. first_fault s after) same)
 
-pub first_found : (words : List (List ℕ)) (wrong : PlacedFault) → IsFirstFault words wrong → first_fault [] words ≡ Some wrong
+pub first_found : (words : List (List ℕ)) (wrong : PlacedFault) → IsFirstFound words wrong → first_fault [] words ≡ Some wrong
 first_found words wrong h = ap (first_fault []) h.is ∙ skip [] h.before h.after h.first ∙ here h.after h.fault
   where
-    here : (after : List (List ℕ)) → fault_between h.before after ≡ Some wrong.fault → first_fault h.before after ≡ Some wrong
-    here [] f = rw f (ap (λ n. Some (record { place = n; fault = wrong.fault })) (sym h.place))
-    here (word ∷ after) f = rw f (ap (λ n. Some (record { place = n; fault = wrong.fault })) (sym h.place))
+    here : (after : List (List ℕ)) → fault_between h.before after ≡ Some wrong → first_fault h.before after ≡ Some wrong
+    here [] f = f
+    here (word ∷ after) f = rw f refl
 
 -- where there is no fault, nothing is wrong with the words
 pub none_is : (before after : List (List ℕ)) → AreGood before → first_fault before after ≡ None → AreGood (before ++ after) × (fault_between (before ++ after) [] ≡ None)
-none_is before [] good e = subst (λ ws. AreGood ws × (fault_between ws [] ≡ None)) (sym (append-nil before)) (good, by (fault_between before []) refl)
-  where
-    by : (r : Option WordFault) → fault_between before [] ≡ r → fault_between before [] ≡ None
-    by None is = is
-    by (Some fault) is = absurd (no_some (sym (rw is at e)))
+none_is before [] good e = subst (λ ws. AreGood ws × (fault_between ws [] ≡ None)) (sym (append-nil before)) (good, e)
 none_is before (word ∷ after) good e = by (fault_between before (word ∷ after)) refl (none_is (before ++ word ∷ []) after)
   where
-    by : (r : Option WordFault) → fault_between before (word ∷ after) ≡ r
+    by : (r : Option PlacedFault) → fault_between before (word ∷ after) ≡ r
         → (AreGood (before ++ word ∷ []) → first_fault (before ++ word ∷ []) after ≡ None → AreGood ((before ++ word ∷ []) ++ after) × (fault_between ((before ++ word ∷ []) ++ after) [] ≡ None))
         → AreGood (before ++ word ∷ after) × (fault_between (before ++ word ∷ after) [] ≡ None)
     by None is more = subst (λ ws. AreGood ws × (fault_between ws [] ≡ None)) (append_assoc before (word ∷ []) after) (more (good_with before word after good is) (rw is at e))

@@ -10,8 +10,11 @@ pub mod Plans
 pub mod Given
 pub mod Looked
 pub mod ReadingWords
+pub mod AllWords
 pub mod Sending
 pub mod Told
 pub mod TypeNames
+pub mod ColumnFaults
+pub mod FaultsAgree
 pub mod Worked
 pub mod WorkedWords

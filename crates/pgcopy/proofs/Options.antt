@@ -1,14 +1,14 @@
 -- What stands behind the front of an option, and the number that its digits write.
 use Rattle.std.proofs.Common.{◌≡◌, ◌≢◌, ℕ, ◌<◌, ◌≤◌, ◌^◌, List, ◌++◌, length, drop, Option, None, Some, option_map, Ok, Err, true, false, Bor, refl, sym, ap, ◌∙◌, arith, rules, ⊎_elim, ◌==◌}
-use Rattle.std.proofs.lemmas.Bool.{cases_Bool, lt-ltb, le-leb}
+use Rattle.std.proofs.lemmas.Bool.{cases_Bool, lt-ltb, le-leb, false_from_ne_true}
 use Rattle.std.proofs.lemmas.Bool.Decides.{Decides-eqb}
-use Rattle.std.proofs.lemmas.Slice.Eq.{starts_is}
+use Rattle.std.proofs.lemmas.Slice.Eq.{starts_is, bytes_eq-Decides}
 use Rattle.std.proofs.lemmas.Str.Pattern.{starts_text}
 use Rattle.std.proofs.lemmas.Str.Parse.{IsNumeralModel, numerals_by_value, tells_all_ascii_digits, parse_plain}
 use Rattle.std.specs.List.{starts_with, slice_index}
 use Rattle.std.specs.Option.{MatchOption}
 use Rattle.std.specs.Bool.{⊤}
-use Rattle.std.specs.Str.{all_ascii_digits}
+use Rattle.std.specs.Str.{all_ascii_digits, bytes_eq}
 use Rattle.std.specs.Str.Parse.{ParsesUnsigned, digits_value}
 use Rattle.std.specs.Str.Pattern.{FindsTextPrefix, StripsPrefix}
 use Rattle.pgcopy.specs.Numbers.{is_number}
@@ -55,3 +55,6 @@ reads_none most e digits h plain small = ⊎_elim
     absurd (parse_plain own 64 digits (Err e) h plain (parts.1, parts.0, omega (arith, parts.2, small))))
     (λ not. not)
     (cases_Bool (is_number most digits))
+
+pub differs : (xs ys : List ℕ) → (xs ≡ ys → ⊥) → bytes_eq xs ys ≡ false
+differs xs ys other = false_from_ne_true (bytes_eq xs ys) (λ e. other ((bytes_eq-Decides xs ys).0 e))

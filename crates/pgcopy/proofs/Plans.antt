@@ -1,37 +1,27 @@
 -- A plan of words, and the first fault of words, are what reading them from left to right finds.
-use Rattle.std.proofs.Common.{◌≡◌, ◌↔◌, String, string_bytes, ℕ, ◌≤◌, ◌==◌, nat_lt, List, [], ◌∷◌, ◌++◌, length, map, codes, Option, None, Some, option_map, Result, Ok, Err, IsErr, IsOkAnd, IfOk, IfErr, Bool, true, false, refl, sym, ap, ◌∙◌, subst, arith, if◌then◌else◌}
-use Rattle.std.proofs.lemmas.Bool.{ne_eqb, eqb-false, le-ltb, ltb-false}
+use Rattle.std.proofs.Common.{◌≡◌, ◌↔◌, String, string_bytes, ℕ, ◌+◌, ◌-◌, List, [], ◌∷◌, ◌++◌, length, map, codes, Option, None, Some, option_map, Result, Ok, Err, IsErr, IsOkAnd, IfOk, IfErr, Bool, true, false, refl, sym, ap, ◌∙◌, subst, if◌then◌else◌}
 use Rattle.std.proofs.lemmas.List.{append-nil}
 use Rattle.std.proofs.lemmas.Slice.Eq.{bytes_eq-Decides}
 use Rattle.std.specs.List.{filter_map}
+use Rattle.std.specs.Prelude.{IsOk}
 use Rattle.std.specs.Result.{result_err}
 use Rattle.std.specs.Str.{bytes_eq}
 use Rattle.pgw_tree.specs.Limits.{default_limits}
-use Rattle.pgcopy.specs.declared.words.WordFault.{WordFault}
-use Rattle.pgcopy.specs.declared.words.WordFault.TheVariants.{UnknownCommand, NoTypes, Schema}
+use Rattle.pgcopy.specs.declared.words.WordFault.TheVariants.{UnknownCommand}
 use Rattle.pgcopy.proofs.OidWords.{all_found, all_spelled}
-use Rattle.pgcopy.proofs.Entries.{none_twice}
-use Rattle.pgcopy.specs.Words.{type_of, texts, PlanData, IsPlan, entry_of, columns_fault, PlacedFault, IsFirstFault, first_fault, limits_in, plan_of_texts, plan_of, HasNoPlan}
+use Rattle.pgcopy.specs.Words.{type_of, texts, PlanData, IsPlan, entry_of, columns_fault, fault_of_all, PlacedFault, placed, IsFirstFault, first_fault, limits_in, plan_of_texts, plan_of, HasNoPlan}
 use Rattle.pgcopy.proofs.FirstFaults.{AreGood, no_some, first_is, skip, first_found, none_is, good_alone}
-use Rattle.pgcopy.proofs.AskedFor.{AskFor, asked, fine_word, what_is}
+use Rattle.pgcopy.proofs.AskedFor.{AskFor, nothing_asked, asked, fine_word, what_is}
+use Rattle.pgcopy.proofs.TypeNames.{columns_are, columns_read}
+use Rattle.pgcopy.proofs.ColumnFaults.{columns_fine, fine_columns}
+use Rattle.pgcopy.proofs.FaultsAgree.{good_behind, first_said, first_is_said}
 
-count_fine : (count : ℕ) → 1 ≤ count → count ≤ 32767 → columns_fault count ≡ None
-count_fine count some few = rw (ne_eqb count 0 (λ e. omega (arith, e, some)), le-ltb 32767 count few) refl
-
-count_is : (count : ℕ) → columns_fault count ≡ None → (1 ≤ count) × (count ≤ 32767)
-count_is count e = by (count == 0) refl (nat_lt 32767 count) refl
-  where
-    by : (b : Bool) → (count == 0) ≡ b → (c : Bool) → nat_lt 32767 count ≡ c → (1 ≤ count) × (count ≤ 32767)
-    by true none c many = let k : Some NoTypes ≡ None = rw none at e in absurd (no_some (sym k))
-    by false none true many = let k : Some (Schema 2) ≡ None = rw (none, many) at e in absurd (no_some (sym k))
-    by false none false many = let other = eqb-false count 0 none in (omega (arith, other), ltb-false 32767 count many)
-
-is_copy : (command : List ℕ) → (if bytes_eq command (codes "copy") then None else Some UnknownCommand) ≡ None → command ≡ codes "copy"
+is_copy : (command : List ℕ) → (if bytes_eq command (codes "copy") then None else Some (placed 0 UnknownCommand)) ≡ None → command ≡ codes "copy"
 is_copy command e = by (bytes_eq command (codes "copy")) refl
   where
     by : (b : Bool) → bytes_eq command (codes "copy") ≡ b → command ≡ codes "copy"
     by true is = (bytes_eq-Decides command (codes "copy")).0 is
-    by false is = let k : Some UnknownCommand ≡ None = rw is at e in absurd (no_some (sym k))
+    by false is = absurd (no_some (sym (rw is at e)))
 
 -- What reading finds is a plan.
 pub found_is_plan : (words : List (List ℕ)) (plan : PlanData) → plan_of_texts words ≡ Ok plan → IsPlan words plan
@@ -40,9 +30,8 @@ found_is_plan (command ∷ rest) plan e =
     let none = no_fault (first_fault [] (command ∷ rest)) refl in
     let all = none_is [] (command ∷ rest) good_alone none in
     let copy : command ≡ codes "copy" = is_copy command (all.0 [] command rest refl) in
-    let p = asked [] rest (record { limits = default_limits; entries = []; columns = [] }) nothing_asked (λ front word back is. all.0 (command ∷ front) word back (ap (λ ws. command ∷ ws) is)) in
+    let p = asked [] rest (record { limits = default_limits; entries = []; columns = [] }) nothing_asked (good_behind command rest all.0) in
     let what = what_is rest p.0 p.1 in
-    let count = count_is (length (filter_map type_of rest)) all.1 in
     subst (IsPlan (command ∷ rest)) (λ i. record { limits = (sym what.0 ∙ ap (λ (d : PlanData). d.limits) (found copy none)) i; entries = (sym what.1 ∙ ap (λ (d : PlanData). d.entries) (found copy none)) i; columns = (sym what.2 ∙ ap (λ (d : PlanData). d.columns) (found copy none)) i }) (record {
       options = p.1.options;
       types = p.1.types;
@@ -52,14 +41,10 @@ found_is_plan (command ∷ rest) plan e =
       field = p.1.field;
       entries = all_spelled _ p.0.entries p.1.entries;
       once = p.1.once;
-      columns = p.1.columns;
-      some = rw (sym what.2) count.0;
-      few = rw (sym what.2) count.1;
+      columns = columns_are p.1.types p.0.columns p.1.columns;
+      valid = fine_columns _ p.0.columns (ap (λ cs. columns_fault (1 + (length rest - length cs)) cs) (sym what.2) ∙ all.1);
     })
   where
-    nothing_asked : AskFor [] (record { limits = default_limits; entries = []; columns = [] })
-    nothing_asked = record { options = []; types = []; is = refl; known = refl; rows = refl; field = refl; entries = refl; once = none_twice; columns = refl }
-
     no_fault : (r : Option PlacedFault) → first_fault [] (command ∷ rest) ≡ r → first_fault [] (command ∷ rest) ≡ None
     no_fault None is = is
     no_fault (Some wrong) is = let k : Err wrong ≡ Ok plan = rw is at e in absurd (cc)
@@ -73,16 +58,16 @@ found_is_plan (command ∷ rest) plan e =
 -- Reading finds each plan.
 pub plan_is_found : (words : List (List ℕ)) (plan : PlanData) → IsPlan words plan → plan_of_texts words ≡ Ok plan
 plan_is_found words plan p =
-    let q : AskFor (p.options ++ p.types) plan = record { options = p.options; types = p.types; is = refl; known = p.known; rows = p.rows; field = p.field; entries = all_found _ plan.entries p.entries; once = p.once; columns = p.columns } in
+    let q : AskFor (p.options ++ p.types) plan = record { options = p.options; types = p.types; is = refl; known = p.known; rows = p.rows; field = p.field; entries = all_found _ plan.entries p.entries; once = p.once; columns = columns_read p.types plan.columns p.columns } in
     let what = what_is (p.options ++ p.types) plan q in
-    let fits : columns_fault (length (filter_map type_of (p.options ++ p.types))) ≡ None = ap (λ cs. columns_fault (length cs)) what.2 ∙ count_fine (length plan.columns) p.some p.few in
+    let fits : fault_of_all (p.options ++ p.types) ≡ None = ap (λ cs. columns_fault (1 + (length (p.options ++ p.types) - length cs)) cs) what.2 ∙ columns_fine _ plan.columns p.valid in
     let none : first_fault [] (codes "copy" ∷ (p.options ++ p.types)) ≡ None =
     ap (first_fault []) (sym (append-nil (codes "copy" ∷ (p.options ++ p.types)))) ∙ skip [] (codes "copy" ∷ (p.options ++ p.types)) [] (good q) ∙ rw fits refl in
     ap plan_of_texts p.is ∙ rw none (λ i. Ok (record { limits = what.0 i; entries = what.1 i; columns = what.2 i }))
   where
     good : AskFor (p.options ++ p.types) plan → AreGood (codes "copy" ∷ (p.options ++ p.types))
     good q [] word back e = let same : word ≡ codes "copy" = cc in rw same refl
-    good q (command ∷ front) word back e = fine_word (p.options ++ p.types) plan q front word back (cc)
+    good q (command ∷ front) word back e = ap (option_map (placed (length (command ∷ front)))) (fine_word (p.options ++ p.types) plan q front word back (cc))
 
 -- Reading finds the first fault.
 pub found_is_first : (words : List (List ℕ)) (wrong : PlacedFault) → plan_of_texts words ≡ Err wrong → IsFirstFault words wrong
@@ -90,10 +75,10 @@ found_is_first words wrong e = by (first_fault [] words) refl
   where
     by : (r : Option PlacedFault) → first_fault [] words ≡ r → IsFirstFault words wrong
     by None is = let none : None ≡ Some wrong = rw is at (ap result_err e) in absurd (no_some none)
-    by (Some f) is = let same : Some f ≡ Some wrong = rw is at (ap result_err e) in first_is [] words wrong good_alone (is ∙ same)
+    by (Some f) is = let same : Some f ≡ Some wrong = rw is at (ap result_err e) in first_said words wrong (first_is [] words wrong good_alone (is ∙ same))
 
 pub first_is_found : (words : List (List ℕ)) (wrong : PlacedFault) → IsFirstFault words wrong → plan_of_texts words ≡ Err wrong
-first_is_found words wrong h = rw (first_found words wrong h) refl
+first_is_found words wrong h = rw (first_found words wrong (first_is_said words wrong h)) refl
 
 -- Words with a fault have no plan.
 pub fault_no_plan : (words : List (List ℕ)) (wrong : PlacedFault) → plan_of_texts words ≡ Err wrong → HasNoPlan words
@@ -128,6 +113,13 @@ with_plan words P h = told (plan_of words) refl h
     told (Ok plan) is p = (plan, found_is_plan (texts words) plan is, p)
     told (Err wrong) is p = absurd p
 
+pub some_plan : {A : Type 0} (words : List (String A)) → IsOk (plan_of words) → (plan : PlanData) × IsPlan (texts words) plan
+some_plan words h = told (plan_of words) refl h
+  where
+    told : (r : Result PlanData PlacedFault) → plan_of words ≡ r → IsOk r → (plan : PlanData) × IsPlan (texts words) plan
+    told (Ok plan) is ok = (plan, found_is_plan (texts words) plan is)
+    told (Err wrong) is ok = absurd (cc)
+
 pub for_plan : {A : Type 0} (words : List (String A)) (P : PlanData → Type 0) → IfOk (plan_of words) P → (plan : PlanData) → IsPlan (texts words) plan → P plan
 for_plan words P h plan is = subst (λ (r : Result PlanData PlacedFault). IfOk r P) (plan_is_found (texts words) plan is) h
 
@@ -148,10 +140,8 @@ fault_of_no_plan words none = told (plan_of words) refl ((no_plan words).1 none)
     told (Ok plan) is e = absurd (cc)
     told (Err wrong) is e = (wrong, found_is_first (texts words) wrong is)
 
--- Where nothing is wrong with a single word, the first fault is what is wrong with the number of columns.
-pub wrong_together : (rest : List (List ℕ)) (place types : ℕ) (fault : WordFault) → place ≡ length (codes "copy" ∷ rest) → types ≡ length (filter_map type_of rest) → columns_fault types ≡ Some fault
-    → first_fault (codes "copy" ∷ []) rest ≡ first_fault (codes "copy" ∷ rest) [] → plan_of_texts (codes "copy" ∷ rest) ≡ Err (record { place = place; fault = fault })
-wrong_together rest place types fault at count wrong same =
-    let found : first_fault (codes "copy" ∷ []) rest ≡ Some (record { place = place; fault = fault }) =
-    same ∙ ap (option_map (λ fault. record { place = length (codes "copy" ∷ rest); fault = fault })) (ap columns_fault (sym count) ∙ wrong) ∙ ap (λ n. Some (record { place = n; fault = fault })) (sym at) in
+-- Where nothing is wrong with a single word, the first fault is what is wrong with all of them together.
+pub wrong_together : (rest : List (List ℕ)) (wrong : PlacedFault) → fault_of_all rest ≡ Some wrong → first_fault (codes "copy" ∷ []) rest ≡ first_fault (codes "copy" ∷ rest) [] → plan_of_texts (codes "copy" ∷ rest) ≡ Err wrong
+wrong_together rest wrong is same =
+    let found : first_fault (codes "copy" ∷ []) rest ≡ Some wrong = same ∙ is in
     rw found refl

@@ -5,18 +5,19 @@ use Rattle.std.proofs.lemmas.List.{append-nil, length-append}
 use Rattle.std.proofs.lemmas.List.Elements.{filter_map-append}
 use Rattle.std.proofs.lemmas.List.Folds.{list_all-append}
 use Rattle.std.specs.List.{filter_map, list_all}
-use Rattle.std.specs.Option.{is_some, is_none, option_or}
+use Rattle.std.specs.Option.{is_some, option_or}
 use Rattle.std.specs.Result.{result_err}
 use Rattle.std.specs.Str.Parse.{digits_value}
 use Rattle.pgw_meta.specs.NamedOids.{known_of}
 use Rattle.pgw_meta.specs.Shape.{Shape}
 use Rattle.pgw_meta.specs.declared.found_oids.Found.{Found}
 use Rattle.pgcopy.specs.OidWords.{entry_key}
-use Rattle.pgcopy.specs.declared.words.WordFault.TheVariants.{NotYet}
+use Rattle.pgw_notation.specs.declared.fault.TypeFault.TheVariants.{Syntax}
 use Rattle.pgcopy.specs.declared.words.WordsRead.{WordsRead}
-use Rattle.pgcopy.specs.Words.{single_of, or_null, array_or_single, type_of, in_front, behind, is_option, entry_of, number_of, digits_in, number_fault, oid_fault, option_fault, word_fault}
+use Rattle.pgcopy.specs.Words.{type_of, type_fault_of, behind, is_option, entry_of, number_of, digits_in, number_fault, oid_fault, option_fault, word_fault}
 use Rattle.pgcopy.specs.WordsRead.{AreRead}
 use Rattle.pgcopy.proofs.Options.{behind_is}
+use Rattle.pgcopy.proofs.TypeNames.{unread, no_fault_where_named}
 
 digits_kept : (front word : List ℕ) (before : List (List ℕ)) → behind front word ≡ None → digits_in front (before ++ word ∷ []) ≡ digits_in front before
 digits_kept front word [] e = rw e refl
@@ -86,48 +87,13 @@ rows_no_field word rest is = ap (behind (codes "field=")) (behind_is (codes "row
 field_is_no_rows : (rest : List ℕ) → behind (codes "rows=") (codes "field=" ++ rest) ≡ None
 field_is_no_rows rest = refl
 
--- What reads no word behind a front, reads none with the mark.
-none_marked : (read : List ℕ → Option Shape) (front rest : List ℕ) → ((rest : List ℕ) → read (front ++ rest) ≡ None) → ((rest : List ℕ) → in_front (codes "?") (front ++ rest) ≡ option_map (λ back. front ++ back) (in_front (codes "?") rest)) → or_null read (front ++ rest) ≡ None
-none_marked read front rest none passes = by (in_front (codes "?") rest) refl
-  where
-    by : (r : Option (List ℕ)) → in_front (codes "?") rest ≡ r → or_null read (front ++ rest) ≡ None
-    by None is = rw (passes rest, is) (none rest)
-    by (Some back) is = rw (passes rest, is, none back) refl
-
-none_part : (front rest : List ℕ) → ((rest : List ℕ) → single_of (front ++ rest) ≡ None) → ((rest : List ℕ) → in_front (codes "?") (front ++ rest) ≡ option_map (λ back. front ++ back) (in_front (codes "?") rest))
-    → ((rest : List ℕ) → in_front (codes "[]") (front ++ rest) ≡ option_map (λ back. front ++ back) (in_front (codes "[]") rest)) → array_or_single (front ++ rest) ≡ None
-none_part front rest none passes over = by (in_front (codes "[]") rest) refl
-  where
-    by : (r : Option (List ℕ)) → in_front (codes "[]") rest ≡ r → array_or_single (front ++ rest) ≡ None
-    by None is = rw (over rest, is) (none rest)
-    by (Some back) is = rw (over rest, is, none_marked single_of front back none passes) refl
-
-option_none : (front rest : List ℕ) → ((rest : List ℕ) → single_of (front ++ rest) ≡ None) → ((rest : List ℕ) → in_front (codes "?") (front ++ rest) ≡ option_map (λ back. front ++ back) (in_front (codes "?") rest))
-    → ((rest : List ℕ) → in_front (codes "[]") (front ++ rest) ≡ option_map (λ back. front ++ back) (in_front (codes "[]") rest)) → type_of (front ++ rest) ≡ None
-option_none front rest none passes over = none_marked array_or_single front rest (λ rest. none_part front rest none passes over) passes
-
 -- no option is a type
 no_types : (rest : List ℕ) → (type_of (codes "rows=" ++ rest) ≡ None) × (type_of (codes "field=" ++ rest) ≡ None) × (type_of (codes "oid=" ++ rest) ≡ None)
 no_types rest = (
-  option_none (codes "rows=") rest (λ rest. refl) (λ rest. rows (in_front (codes "?") rest)) (λ rest. rows (in_front (codes "[]") rest)),
-  option_none (codes "field=") rest (λ rest. refl) (λ rest. field (in_front (codes "?") rest)) (λ rest. field (in_front (codes "[]") rest)),
-  option_none (codes "oid=") rest (λ rest. refl) (λ rest. given (in_front (codes "?") rest)) (λ rest. given (in_front (codes "[]") rest)),
+  unread (codes "rows=" ++ rest) (Syntax 0) refl,
+  unread (codes "field=" ++ rest) (Syntax 0) refl,
+  unread (codes "oid=" ++ rest) (Syntax 3) refl,
 )
-  where
-    one : ℕ → Option (List ℕ) → Option (List ℕ)
-    one byte r = option_map (λ front. byte ∷ front) r
-
-    rows : (r : Option (List ℕ)) → one 114 (one 111 (one 119 (one 115 (one 61 r)))) ≡ option_map (λ back. codes "rows=" ++ back) r
-    rows None = refl
-    rows (Some back) = refl
-
-    field : (r : Option (List ℕ)) → one 102 (one 105 (one 101 (one 108 (one 100 (one 61 r))))) ≡ option_map (λ back. codes "field=" ++ back) r
-    field None = refl
-    field (Some back) = refl
-
-    given : (r : Option (List ℕ)) → one 111 (one 105 (one 100 (one 61 r))) ≡ option_map (λ back. codes "oid=" ++ back) r
-    given None = refl
-    given (Some back) = refl
 
 -- a type is no option
 pub type_is_plain : (word : List ℕ) (t : Shape) → type_of word ≡ Some t → (behind (codes "rows=") word ≡ None) × (behind (codes "field=") word ≡ None) × (behind (codes "oid=") word ≡ None)
@@ -162,11 +128,6 @@ none_if (Some x) h = cc
 is_some_map : {A B : Type 0} → (f : A → B) (r : Option A) → is_some (option_map f r) ≡ is_some r
 is_some_map f None = refl
 is_some_map f (Some x) = refl
-
--- the type that a word names
-pub type_named : {A : Type 0} (form : A → Shape) (word : List ℕ) (r : Option A) → option_map form r ≡ type_of word → is_some r ≡ true → (t : Shape) × (type_of word ≡ Some t)
-type_named form word (Some t) e h = (form t, sym e)
-type_named form word None e h = cc
 
 -- what reading the option `front` gives, where the words before it held this number of it
 record IsTaken (front : List ℕ) (most n : ℕ) (word : List ℕ) (before : List (List ℕ)) : Type 0 where
@@ -251,7 +212,7 @@ type_seen seen t word before h is =
     let plain = type_is_plain word t is in
     let option = type_is_no_option word t is in
     let mixed : (list_all is_option before && is_option word) ≡ false = ap (λ b. list_all is_option before && b) option ∙ and_false _ in (
-      ap (λ b. if b then option_fault before word else if is_none (type_of word) then Some NotYet else None) mixed ∙ rw is refl,
+      ap (λ b. if b then option_fault before word else type_fault_of word) mixed ∙ no_fault_where_named word t is,
       record {
         rows = h.rows ∙ sym (ap (option_map (digits_value 10)) (digits_kept (codes "rows=") word before plain.0));
         field = h.field ∙ sym (ap (option_map (digits_value 10)) (digits_kept (codes "field=") word before plain.1));

@@ -1,6 +1,6 @@
 -- What a fault of a copy says of the run that met it.
-use Rattle.std.proofs.Common.{◌≡◌, ◌⊎◌, Result, Ok, Err, IsOkAnd, refl, ap, inl, inr}
-use Rattle.std.specs.Prelude.{IsOk}
+use Rattle.std.proofs.Common.{◌≡◌, ◌⊎◌, ℕ, Result, Ok, Err, IsOkAnd, refl, sym, ap, ◌∙◌, inl, inr}
+use Rattle.std.specs.Prelude.{IsOk, IfOk}
 use Rattle.std.specs.Result.{IsOkUnless}
 use Rattle.pgw_wire.specs.Outside.{SourceState, SinkState}
 use Rattle.pgw_wire.proofs.Taking.{took_none}
@@ -9,15 +9,22 @@ use Rattle.pgw_tree.specs.declared.fault.CopyFault.{CopyFault}
 use Rattle.pgw_tree.specs.declared.fault.CopyFault.TheVariants.{BadHeader, BadFlags, Truncated, BadFieldCount, UnexpectedEndOfRow, BadValue, TooLong, RowLimit, UnknownType, LookupFault, ReadFault, WriteFault, NoMemory}
 use Rattle.pgw_tree.specs.Causes.{no_memory_at_first}
 use Rattle.pgw_tree.specs.Lookups.{IsLookupFault}
-use Rattle.pgcopy.specs.Words.{PlanData}
+use Rattle.pgcopy.specs.Words.{PlanData, PlacedFault, IsOfAColumn}
 use Rattle.pgcopy.specs.Runs.{MetFault}
-use Rattle.pgcopy.specs.declared.report.Status.TheVariants.{Refused as status_refused, NoMemory as status_no_memory}
-use Rattle.pgcopy.specs.Report.{fault_status}
+use Rattle.pgcopy.specs.declared.words.WordFault.{WordFault}
+use Rattle.pgcopy.specs.declared.report.Outcome.{Outcome}
+use Rattle.pgcopy.specs.declared.report.Outcome.TheVariants.{BadWord, Fault}
+use Rattle.pgcopy.specs.declared.report.Status.TheVariants.{Words as status_words, Refused as status_refused, NoMemory as status_no_memory}
+use Rattle.pgcopy.specs.Report.{fault_status, status_of}
 
 -- A value has what every value has.
 pub ok_and : {X E : Type 0} (r : Result X E) (P : X → Type 0) → IsOk r → ((x : X) → P x) → IsOkAnd r P
 ok_and (Ok x) P is p = p x
 ok_and (Err e) P is p = absurd (cc)
+
+pub ok_then : {X E : Type 0} (r : Result X E) (P : X → Type 0) → ((x : X) → P x) → IfOk r P
+ok_then (Ok x) P p = p x
+ok_then (Err e) P p = tt
 
 pub ok_and_map : {X E : Type 0} (r : Result X E) (P Q : X → Type 0) → ((x : X) → P x → Q x) → IsOkAnd r P → IsOkAnd r Q
 ok_and_map (Ok x) P Q f p = f x p
@@ -53,3 +60,17 @@ refused_at_fault LookupFault found read write reads writes = absurd (found tt)
 refused_at_fault ReadFault found read write reads writes = absurd (reads (read refl))
 refused_at_fault WriteFault found read write reads writes = absurd (writes (write refl))
 refused_at_fault NoMemory found read write reads writes = inr refl
+
+-- What ends with the status of bad words is what is wrong with them, and no want of memory.
+pub bad_word_is : (outcome bad : Outcome) (Of : Type 0) → (outcome ≡ bad) ⊎ ((outcome ≡ Fault NoMemory) × Of) → status_of outcome ≡ status_words → outcome ≡ bad
+bad_word_is outcome bad Of (inl is) words = is
+bad_word_is outcome bad Of (inr memory) words = let no : status_no_memory ≡ status_words = sym (ap status_of memory.0) ∙ words in absurd (cc)
+
+pub status_without_plan : (outcome : Outcome) (wrong : PlacedFault) → (outcome ≡ BadWord wrong.place wrong.fault) ⊎ ((outcome ≡ Fault NoMemory) × IsOfAColumn wrong.fault)
+    → (status_of outcome ≡ status_words) ⊎ ((status_of outcome ≡ status_no_memory) × IsOfAColumn wrong.fault)
+status_without_plan outcome wrong (inl is) = inl (ap status_of is)
+status_without_plan outcome wrong (inr memory) = inr (ap status_of memory.0, memory.1)
+
+pub memory_is : (outcome : Outcome) (place : ℕ) (fault : WordFault) (Of : Type 0) → (outcome ≡ BadWord place fault) ⊎ ((outcome ≡ Fault NoMemory) × Of) → status_of outcome ≡ status_no_memory → outcome ≡ Fault NoMemory
+memory_is outcome place fault Of (inl is) memory = let no : status_words ≡ status_no_memory = sym (ap status_of is) ∙ memory in absurd (cc)
+memory_is outcome place fault Of (inr is) memory = is.0

@@ -1,22 +1,29 @@
 -- What some command lines ask for, computed from the definitions.
-use Rattle.std.proofs.Common.{◌≡◌, ℕ, List, [], ◌∷◌, ◌++◌, codes, Option, Some, None, option_map, Result, Ok, Err, refl, ap, arith, inl}
+use Rattle.std.proofs.Common.{◌≡◌, ℕ, List, [], ◌∷◌, ◌++◌, codes, Option, Some, None, option_map, Result, Ok, Err, refl, ap, subst, arith, inl}
+use Rattle.std.proofs.lemmas.Option.{none-some}
 use Rattle.pgw_meta.specs.Known.{Key}
 use Rattle.pgw_meta.specs.Shape.{Shape, scalar, int4, int8, text, macaddr, macaddr8, date, timestamptz, numeric, nullable, array, range, multirange, named as named_type}
 use Rattle.pgw_meta.specs.declared.found_oids.Found.{Found}
 use Rattle.pgw_tree.specs.Limits.{default_limits}
 use Rattle.pgcopy.specs.declared.words.WordFault.{WordFault}
-use Rattle.pgcopy.specs.declared.words.WordFault.TheVariants.{NoCommand, UnknownCommand, BadNumber, Repeated, BadOid, NoTypes, NotYet}
+use Rattle.pgcopy.specs.declared.words.WordFault.TheVariants.{NoCommand, UnknownCommand, BadNumber, Repeated, BadOid, BadType, DeepType, NoTypes, Schema, NotYet}
 use Rattle.pgcopy.specs.OidWords.{SpellsEntry, entry_in}
 use Rattle.pgcopy.proofs.Entries.{none_twice}
-use Rattle.pgcopy.specs.Words.{named, missing, type_of, PlanData, IsPlan, HasNoPlan, PlacedFault, IsFirstFault, word_fault, fault_between, plan_of_texts}
+use Rattle.pgcopy.specs.Words.{named, missing, type_of, PlanData, IsPlan, HasNoPlan, PlacedFault, IsFirstFault, IsFaultAs, is_option_behind, IsFaultBetween, plan_of_texts}
+use Rattle.pgcopy.proofs.TypeNames.{columns_are}
+use Rattle.pgcopy.proofs.ColumnFaults.{fine_columns}
 use Rattle.pgcopy.proofs.Plans.{found_is_plan, plan_is_found, fault_no_plan, found_is_first}
+
+-- a key
+abbrev key : Option (List ℕ) → List ℕ → Key
+key schema name = record { schema = schema; name = name }
 
 types_named : (type_of (codes "int4") ≡ Some (scalar int4)) × (type_of (codes "text?") ≡ Some (nullable (scalar text)))
     × (type_of (codes "macaddr8") ≡ Some (scalar macaddr8)) × (type_of (codes "macaddr?") ≡ Some (nullable (scalar macaddr)))
 types_named = (refl, refl, refl, refl)
 
-named_nothing : (type_of [] ≡ None) × (type_of (codes "?") ≡ None) × (type_of (codes "int4??") ≡ None) × (type_of (codes "?int4") ≡ None) × (type_of (codes "int4 ") ≡ None)
-named_nothing = (refl, refl, refl, refl, refl)
+named_nothing : (type_of [] ≡ None) × (type_of (codes "?") ≡ None) × (type_of (codes "?int4") ≡ None) × (type_of (codes "int4 ") ≡ None)
+named_nothing = (refl, refl, refl, refl)
 
 -- arrays: of an element that is not null, of one that may be, and each of them or null
 arrays_named : (type_of (codes "int4[]") ≡ Some (array (scalar int4))) × (type_of (codes "int4?[]") ≡ Some (array (nullable (scalar int4))))
@@ -33,8 +40,20 @@ no_ranges : (type_of (codes "int2range") ≡ None) × (type_of (codes "numericra
 no_ranges = (refl, refl, refl, refl)
 
 no_arrays : (type_of (codes "[]") ≡ None) × (type_of (codes "?[]") ≡ None) × (type_of (codes "int4[") ≡ None) × (type_of (codes "int4]") ≡ None) × (type_of (codes "int4 []") ≡ None)
-    × (type_of (codes "int4[][]") ≡ None) × (type_of (codes "int4[]?[]") ≡ None) × (type_of (codes "int4??[]") ≡ None) × (type_of (codes "int4[]??") ≡ None) × (type_of (codes "int4[ ]") ≡ None)
-no_arrays = (refl, refl, refl, refl, refl, refl, refl, refl, refl, refl)
+    × (type_of (codes "int4[ ]") ≡ None)
+no_arrays = (refl, refl, refl, refl, refl, refl)
+
+-- texts of types that no column may have, and of ones with keys
+doubled : (type_of (codes "int4??") ≡ Some (nullable (nullable (scalar int4)))) × (type_of (codes "int4[][]") ≡ Some (array (array (scalar int4))))
+doubled = (refl, refl)
+
+keyed : (type_of (codes "@citext:text?") ≡ Some (nullable (named_type (key None (codes "citext")) (scalar text))))
+    × (type_of (codes "@my.mood:text[]") ≡ Some (array (named_type (key (Some (codes "my")) (codes "mood")) (scalar text))))
+keyed = (refl, refl)
+
+-- records are not copied yet
+records : (type_of (codes "(int4,text)") ≡ None) × (type_of (codes "@t:(int4)") ≡ None)
+records = (refl, refl)
 
 -- the entry of a name in a schema
 abbrev entry : List ℕ → List ℕ → ℕ → ℕ → Found
@@ -80,10 +99,7 @@ told : (named (record { limits = default_limits; entries = entry (codes "public"
     × (named (record { limits = default_limits; entries = entry (codes "my") (codes "t") 1 2 ∷ []; columns = [] }) (record { schema = None; name = codes "t" }) ≡ None)
 told = (refl, refl, refl)
 
--- a key, the shape of the arrays of its type, and what some entries and columns ask for
-abbrev key : Option (List ℕ) → List ℕ → Key
-key schema name = record { schema = schema; name = name }
-
+-- the shape of the arrays of a key's type, and what some entries and columns ask for
 abbrev arrays_of : Key → Shape
 arrays_of k = array (named_type k (scalar text))
 
@@ -115,9 +131,8 @@ types_alone = record {
   field = refl;
   entries = tt;
   once = none_twice;
-  columns = refl;
-  some = omega arith;
-  few = omega arith;
+  columns = columns_are (codes "int4" ∷ codes "text?" ∷ []) (scalar int4 ∷ nullable (scalar text) ∷ []) refl;
+  valid = fine_columns 0 (scalar int4 ∷ nullable (scalar text) ∷ []) refl;
 }
 
 both_limits : IsPlan (codes "copy" ∷ codes "field=02" ∷ codes "rows=15" ∷ codes "text" ∷ []) (record { limits = record { rows_max = 15; field_max = 2 }; entries = []; columns = scalar text ∷ [] })
@@ -130,9 +145,8 @@ both_limits = record {
   field = (refl, refl);
   entries = tt;
   once = none_twice;
-  columns = refl;
-  some = omega arith;
-  few = omega arith;
+  columns = columns_are (codes "text" ∷ []) (scalar text ∷ []) refl;
+  valid = fine_columns 0 (scalar text ∷ []) refl;
 }
 
 with_entries : IsPlan (codes "copy" ∷ codes "oid=t:1:2" ∷ codes "rows=15" ∷ codes "oid=my.t:3:4" ∷ codes "text" ∷ [])
@@ -168,16 +182,17 @@ again_by_hand = record {
   before = codes "copy" ∷ codes "rows=1" ∷ [];
   after = codes "rows=2" ∷ [];
   is = refl;
-  place = refl;
-  fault = refl;
+  fault = (refl, refl);
   first = fine;
 }
   where
-    fine : (front : List (List ℕ)) (word : List ℕ) (back : List (List ℕ)) → codes "copy" ∷ codes "rows=1" ∷ [] ≡ front ++ word ∷ back → fault_between front (word ∷ back) ≡ None
-    fine [] word back e = let same : word ≡ codes "copy" = cc in ap (λ w. fault_between [] (w ∷ back)) same
-    fine (a ∷ []) word back e = let same : word ≡ codes "rows=1" = cc in ap (word_fault []) same
-    fine (a ∷ b ∷ []) word back e = cc
-    fine (a ∷ b ∷ c ∷ front) word back e = cc
+    fine : (front : List (List ℕ)) (word : List ℕ) (back : List (List ℕ)) → codes "copy" ∷ codes "rows=1" ∷ [] ≡ front ++ word ∷ back → (other : PlacedFault) → IsFaultBetween front (word ∷ back) other → ⊥
+    fine [] word back e other h = let same : word ≡ codes "copy" = cc in h.0 same
+    fine (a ∷ []) word back e other h =
+        let same : word ≡ codes "rows=1" = cc in
+        none-some other.fault (subst (λ w. IsFaultAs (is_option_behind [] w) [] w other.fault) same h.1)
+    fine (a ∷ b ∷ []) word back e other h = cc
+    fine (a ∷ b ∷ c ∷ front) word back e other h = cc
 
 nothing : Wrong [] 0 NoCommand
 nothing = wrong [] 0 NoCommand refl
@@ -200,17 +215,37 @@ too_long_fields = wrong _ 1 BadNumber refl
 no_digits : Wrong (codes "copy" ∷ codes "rows=" ∷ codes "int4" ∷ []) 1 BadNumber
 no_digits = wrong _ 1 BadNumber refl
 
-behind_a_type : Wrong (codes "copy" ∷ codes "int4" ∷ codes "rows=1" ∷ []) 2 NotYet
-behind_a_type = wrong _ 2 NotYet refl
+behind_a_type : Wrong (codes "copy" ∷ codes "int4" ∷ codes "rows=1" ∷ []) 2 (BadType 0)
+behind_a_type = wrong _ 2 (BadType 0) refl
 
-marked_twice : Wrong (codes "copy" ∷ codes "int4??" ∷ []) 1 NotYet
-marked_twice = wrong _ 1 NotYet refl
+no_space : Wrong (codes "copy" ∷ codes "int4 " ∷ []) 1 (BadType 4)
+no_space = wrong _ 1 (BadType 4) refl
+
+ends_early : Wrong (codes "copy" ∷ codes "(int4" ∷ []) 1 (BadType 5)
+ends_early = wrong _ 1 (BadType 5) refl
+
+-- The 32nd suffix is too deep, though fewer of them make no column.
+many_marks : Wrong (codes "copy" ∷ codes "int4[][][][][][][][][][][][][][][][][][][][][][][][][][][][][][][][]" ∷ []) 1 (DeepType 66)
+many_marks = wrong _ 1 (DeepType 66) refl
+
+no_records : Wrong (codes "copy" ∷ codes "(int4)" ∷ []) 1 NotYet
+no_records = wrong _ 1 NotYet refl
+
+marked_twice : Wrong (codes "copy" ∷ codes "rows=1" ∷ codes "text" ∷ codes "int4??" ∷ []) 3 (Schema 3)
+marked_twice = wrong _ 3 (Schema 3) refl
+
+arrays_of_arrays : Wrong (codes "copy" ∷ codes "int4[]?[]" ∷ codes "int4??" ∷ []) 1 (Schema 4)
+arrays_of_arrays = wrong _ 1 (Schema 4) refl
+
+-- A word that is no text of a type comes before the columns' faults.
+words_first : Wrong (codes "copy" ∷ codes "int4??" ∷ codes "int" ∷ []) 2 (BadType 0)
+words_first = wrong _ 2 (BadType 0) refl
 
 bad_oid : Wrong (codes "copy" ∷ codes "oid=t:1" ∷ codes "int4" ∷ []) 1 BadOid
 bad_oid = wrong _ 1 BadOid refl
 
-oid_behind_a_type : Wrong (codes "copy" ∷ codes "int4" ∷ codes "oid=t:1:2" ∷ []) 2 NotYet
-oid_behind_a_type = wrong _ 2 NotYet refl
+oid_behind_a_type : Wrong (codes "copy" ∷ codes "int4" ∷ codes "oid=t:1:2" ∷ []) 2 (BadType 3)
+oid_behind_a_type = wrong _ 2 (BadType 3) refl
 
 oids_again : Wrong (codes "copy" ∷ codes "oid=t:1:2" ∷ codes "rows=1" ∷ codes "oid=public.t:3:4" ∷ codes "int4" ∷ []) 3 Repeated
 oids_again = wrong _ 3 Repeated refl

@@ -9,7 +9,7 @@ use Rattle.pgw_meta.specs.Keys.{owned_key}
 use Rattle.pgw_tree.specs.declared.fault.CopyFault.{CopyFault}
 use Rattle.pgw_tree.specs.declared.fault.CopyFault.TheVariants.{BadHeader, BadFlags, Truncated, BadFieldCount, UnexpectedEndOfRow, BadValue, TooLong, RowLimit, UnknownType, LookupFault, ReadFault, WriteFault, NoMemory}
 use Rattle.pgcopy.specs.declared.words.WordFault.{WordFault}
-use Rattle.pgcopy.specs.declared.words.WordFault.TheVariants.{NoCommand, UnknownCommand, BadNumber, Repeated, BadOid, NoTypes, Schema, NotYet}
+use Rattle.pgcopy.specs.declared.words.WordFault.TheVariants.{NoCommand, UnknownCommand, BadNumber, Repeated, BadOid, BadType, DeepType, NoTypes, Schema, NotYet}
 use Rattle.pgcopy.specs.declared.report.Outcome.{Outcome}
 use Rattle.pgcopy.specs.declared.report.Outcome.TheVariants.{Copied, BadWord, Fault}
 use Rattle.pgcopy.specs.declared.report.Status.{Status}
@@ -44,6 +44,8 @@ fault_text UnknownCommand = codes "unknown command"
 fault_text BadNumber = codes "bad number"
 fault_text Repeated = codes "repeated option"
 fault_text BadOid = codes "bad oid word"
+fault_text (BadType place) = codes "bad type at " ++ decimal place
+fault_text (DeepType place) = codes "type too deep at " ++ decimal place
 fault_text NoTypes = codes "missing type"
 fault_text (Schema number) = codes "schema fault " ++ decimal number
 fault_text NotYet = codes "not supported yet"

@@ -1,12 +1,20 @@
 -- What the words of a command line ask for: the limits, the oids that they give types, and the types of the columns to
 -- copy, or the first thing that is wrong.
-use Rattle.std.specs.Prelude.{ℕ, ◌≤◌, ◌≡◌, ◌==◌, ◌&&◌, ◌||◌, List, [], ◌∷◌, ◌++◌, length, drop, map, String, string_bytes, codes, Option, None, Some, is_none, is_some, option_map, Result, Ok, Err, Bool, true, false, nat_lt, if◌then◌else◌}
-use Rattle.std.specs.List.{filter_map, starts_with, list_all, AllZip, IsDistinct}
+use Rattle.std.specs.Prelude.{ℕ, ◌+◌, ◌-◌, ◌≡◌, ◌≢◌, ◌==◌, ◌&&◌, ◌||◌, List, [], ◌∷◌, ◌++◌, length, drop, map, String, string_bytes, codes, Option, None, Some, is_some, option_map, Result, Ok, Err, Bool, true, false, IsTrue, IsFalse, if◌then◌else◌}
+use Rattle.std.specs.List.{filter_map, starts_with, list_all, list_any, AllZip, IsDistinct}
 use Rattle.std.specs.Option.{option_or, option_and_then, option_map_or}
-use Rattle.std.specs.Result.{result_err}
+use Rattle.std.specs.Result.{result_ok, result_err}
 use Rattle.std.specs.Str.{bytes_eq}
 use Rattle.std.specs.Str.Parse.{digits_value}
-use Rattle.pgw_meta.specs.Shape.{Shape, scalar, nullable, array, range, multirange, bool, char, int2, int4, int8, oid, text, bytea, uuid, money, pg_lsn, macaddr, macaddr8, inet, cidr, date, time, timestamp, timestamptz, interval, numeric}
+use Rattle.pgw_meta.specs.Shape.{Shape}
+use Rattle.pgw_meta.specs.Schema.{IsValidSchema, schema_fault, fault_number}
+use Rattle.pgw_meta.specs.declared.schema.SchemaError.{SchemaError}
+use Rattle.pgw_meta.specs.declared.schema.SchemaError.TheVariants.{NestedNullable, NestedArray, BadRange, EmptyRecord, WideRecord, BadNamed, TooDeep as DeepColumn}
+use Rattle.pgw_notation.specs.Tokens.{tokens}
+use Rattle.pgw_notation.specs.Faults.{IsTextOf, IsFaultOf}
+use Rattle.pgw_notation.specs.Reading.{start, read_tokens}
+use Rattle.pgw_notation.specs.declared.fault.TypeFault.{TypeFault}
+use Rattle.pgw_notation.specs.declared.fault.TypeFault.TheVariants.{Syntax, TooDeep, NoMemory}
 use Rattle.pgw_meta.specs.Known.{Key, Known}
 use Rattle.pgw_meta.specs.Needs.{is_same_key, needs_of}
 use Rattle.pgw_meta.specs.NamedOids.{known_of}
@@ -19,53 +27,16 @@ use Rattle.pgw_tree.specs.Canonical.{canonical_front}
 use Rattle.pgcopy.specs.Numbers.{is_number}
 use Rattle.pgcopy.specs.OidWords.{SpellsEntry, entry_in, schema_of, entry_key}
 use Rattle.pgcopy.specs.declared.words.WordFault.{WordFault}
-use Rattle.pgcopy.specs.declared.words.WordFault.TheVariants.{NoCommand, UnknownCommand, BadNumber, Repeated, BadOid, NoTypes, Schema, NotYet}
+use Rattle.pgcopy.specs.declared.words.WordFault.TheVariants.{NoCommand, UnknownCommand, BadNumber, Repeated, BadOid, BadType, DeepType, NoTypes, Schema, NotYet}
 
--- the types that have a name
-abbrev pub type_names : List (List ℕ × Shape)
-type_names =
-    (codes "bool", scalar bool) ∷ (codes "char", scalar char) ∷ (codes "int2", scalar int2)
-    ∷ (codes "int4", scalar int4) ∷ (codes "int8", scalar int8) ∷ (codes "oid", scalar oid)
-    ∷ (codes "text", scalar text) ∷ (codes "bytea", scalar bytea) ∷ (codes "uuid", scalar uuid)
-    ∷ (codes "money", scalar money) ∷ (codes "pg_lsn", scalar pg_lsn) ∷ (codes "macaddr", scalar macaddr)
-    ∷ (codes "macaddr8", scalar macaddr8) ∷ (codes "inet", scalar inet) ∷ (codes "cidr", scalar cidr)
-    ∷ (codes "date", scalar date) ∷ (codes "time", scalar time) ∷ (codes "timestamp", scalar timestamp)
-    ∷ (codes "timestamptz", scalar timestamptz) ∷ (codes "interval", scalar interval)
-    ∷ (codes "numeric", scalar numeric) ∷ (codes "int4range", range (scalar int4))
-    ∷ (codes "int8range", range (scalar int8)) ∷ (codes "numrange", range (scalar numeric))
-    ∷ (codes "daterange", range (scalar date)) ∷ (codes "tsrange", range (scalar timestamp))
-    ∷ (codes "tstzrange", range (scalar timestamptz)) ∷ (codes "int4multirange", multirange (scalar int4))
-    ∷ (codes "int8multirange", multirange (scalar int8)) ∷ (codes "nummultirange", multirange (scalar numeric))
-    ∷ (codes "datemultirange", multirange (scalar date)) ∷ (codes "tsmultirange", multirange (scalar timestamp))
-    ∷ (codes "tstzmultirange", multirange (scalar timestamptz)) ∷ []
+-- whether a word has a `(`, as the text of a type has where a record stands in it; records are not copied yet
+abbrev pub has_record : List ℕ → Bool
+has_record word = list_any (λ byte. byte == 40) word
 
--- what stands beside a name in a table
-abbrev pub look_up : {A : Type 0} → List ℕ → List (List ℕ × A) → Option A
-look_up name [] = None
-look_up name (entry ∷ entries) = if bytes_eq name entry.0 then Some entry.1 else look_up name entries
-
--- what stands in a word in front of these bytes, where it ends with them
-abbrev pub in_front : List ℕ → List ℕ → Option (List ℕ)
-in_front back [] = if bytes_eq [] back then Some [] else None
-in_front back (byte ∷ bytes) =
-    if bytes_eq (byte ∷ bytes) back then Some [] else option_map (λ front. byte ∷ front) (in_front back bytes)
-
--- the type of a name
-abbrev pub single_of : List ℕ → Option Shape
-single_of name = look_up name type_names
-
--- what is read of words, or that or null, which a `?` at the end of a word says
-abbrev pub or_null : (List ℕ → Option Shape) → List ℕ → Option Shape
-or_null read word = option_map_or (λ front. option_map nullable (read front)) (in_front (codes "?") word) (read word)
-
--- A type by its name; or, in front of `[]`, the type of the elements of an array, which may be null too.
-abbrev pub array_or_single : List ℕ → Option Shape
-array_or_single word =
-    option_map_or (λ element. option_map array (or_null single_of element)) (in_front (codes "[]") word) (single_of word)
-
--- The column type that a word names: such a type, or it or null.
-abbrev pub type_of : List ℕ → Option Shape
-type_of = or_null array_or_single
+-- A word is the text of the type of a column.
+pub record IsColumn (word : List ℕ) (t : Shape) : Type 0 where
+  pub text : IsTextOf t word
+  pub copied : IsFalse (has_record word)
 
 -- what stands in a word behind these bytes, where it begins with them
 abbrev pub behind : List ℕ → List ℕ → Option (List ℕ)
@@ -93,8 +64,8 @@ pub record PlanData : Type 0 where
   pub entries : List Found
   pub columns : List Shape
 
--- Words ask for this: the command `copy`, then options, each at most once, and then the types of 1 to 32767 columns. Each
--- option `oid=` is one entry, in their order, and no two have the same schema and name.
+-- Words ask for this: the command `copy`, then options, each at most once, and then the texts of types that the columns of
+-- a stream may have. Each option `oid=` is one entry, in their order, and no two have the same schema and name.
 pub record IsPlan (words : List (List ℕ)) (plan : PlanData) : Type 0 where
   pub options : List (List ℕ)
   pub types : List (List ℕ)
@@ -104,9 +75,8 @@ pub record IsPlan (words : List (List ℕ)) (plan : PlanData) : Type 0 where
   pub field : IsSet default_limits.field_max (filter_map (behind (codes "field=")) options) plan.limits.field_max
   pub entries : AllZip SpellsEntry (filter_map (behind (codes "oid=")) options) plan.entries
   pub once : IsDistinct is_same_key (map entry_key plan.entries)
-  pub columns : map type_of types ≡ map Some plan.columns
-  pub some : 1 ≤ length plan.columns
-  pub few : length plan.columns ≤ 32767
+  pub columns : AllZip IsColumn types plan.columns
+  pub valid : IsValidSchema plan.columns
 
 -- No plan is what the words ask for.
 abbrev pub HasNoPlan : List (List ℕ) → Type 0
@@ -159,24 +129,33 @@ option_fault before word =
     then number_fault (codes "field=") default_limits.field_max before word
     else oid_fault before word
 
--- What is wrong with a word behind these words, the command not among them. It is an option or a type.
-abbrev pub word_fault : List (List ℕ) → List ℕ → Option WordFault
-word_fault before word =
-    if list_all is_option before && is_option word then option_fault before word
-    else if is_none (type_of word) then Some NotYet
-    else None
+-- whether a word behind these words, the command not among them, is an option
+abbrev pub is_option_behind : List (List ℕ) → List ℕ → Bool
+is_option_behind before word = list_all is_option before && is_option word
 
--- what is wrong with the number of columns
-abbrev pub columns_fault : ℕ → Option WordFault
-columns_fault count = if count == 0 then Some NoTypes else if nat_lt 32767 count then Some (Schema 2) else None
+-- This is wrong with a word that is to be the text of a column's type.
+abbrev pub IsTypeFault : List ℕ → WordFault → Type 0
+IsTypeFault word (BadType place) = IsFaultOf (Syntax place) word
+IsTypeFault word (DeepType place) = IsFaultOf (TooDeep place) word
+IsTypeFault word NotYet = ((t : Shape) × IsTextOf t word) × IsTrue (has_record word)
+IsTypeFault word _ = ⊥
 
--- What is wrong at the place between the words `before` and the words `after`: with the first of `after`, and where
--- there is none, with all the words together.
-abbrev pub fault_between : List (List ℕ) → List (List ℕ) → Option WordFault
-fault_between [] [] = Some NoCommand
-fault_between [] (command ∷ after) = if bytes_eq command (codes "copy") then None else Some UnknownCommand
-fault_between (command ∷ before) (word ∷ after) = word_fault before word
-fault_between (command ∷ before) [] = columns_fault (length (filter_map type_of before))
+-- This is wrong with an option behind these words, or with the text of a type.
+abbrev pub IsFaultAs : Bool → List (List ℕ) → List ℕ → WordFault → Type 0
+IsFaultAs true before word fault = option_fault before word ≡ Some fault
+IsFaultAs false before word fault = IsTypeFault word fault
+
+-- the place of the word that a fault of columns names, where the first column is at the place `first`; a fault of all
+-- columns has the place behind them
+abbrev pub place_of : ℕ → ℕ → SchemaError → ℕ
+place_of first behind (NestedNullable column) = first + column
+place_of first behind (NestedArray column) = first + column
+place_of first behind (BadRange column) = first + column
+place_of first behind (EmptyRecord column) = first + column
+place_of first behind (WideRecord column) = first + column
+place_of first behind (BadNamed column) = first + column
+place_of first behind (DeepColumn column) = first + column
+place_of first behind _ = behind
 
 -- What is wrong, and the place of its word, counted from 0. What is wrong with no single word has the place behind the
 -- last.
@@ -184,23 +163,88 @@ pub record PlacedFault : Type 0 where
   pub place : ℕ
   pub fault : WordFault
 
--- This is wrong with the words at its place, and nothing is wrong with a word in front of it.
+abbrev pub placed : ℕ → WordFault → PlacedFault
+placed place fault = record { place = place; fault = fault }
+
+-- what is wrong with all columns together, of which the first is at this place
+abbrev pub columns_fault : ℕ → List Shape → Option PlacedFault
+columns_fault first [] = Some (placed first NoTypes)
+columns_fault first (t ∷ ts) =
+    option_map (λ e. placed (place_of first (first + length (t ∷ ts)) e) (Schema (fault_number e))) (schema_fault (t ∷ ts))
+
+-- It is what is wrong with the type of a column, where each word is the text of one.
+abbrev pub IsOfAColumn : WordFault → Type 0
+IsOfAColumn (Schema number) = number ≢ 2
+IsOfAColumn _ = ⊥
+
+-- This is wrong with all words behind the command together: nothing is wrong with one of them, but with their columns.
+pub record IsFaultOfAll (words : List (List ℕ)) (wrong : PlacedFault) : Type 0 where
+  pub options : List (List ℕ)
+  pub types : List (List ℕ)
+  pub columns : List Shape
+  pub is : words ≡ options ++ types
+  pub known : list_all is_option options ≡ true
+  pub are : AllZip IsColumn types columns
+  pub fault : columns_fault (1 + length options) columns ≡ Some wrong
+
+-- This is wrong at the place between the words `before` and the words `after`: with the first of `after`, and where there
+-- is none, with all the words together.
+abbrev pub IsFaultBetween : List (List ℕ) → List (List ℕ) → PlacedFault → Type 0
+IsFaultBetween [] [] wrong = wrong ≡ placed 0 NoCommand
+IsFaultBetween [] (command ∷ after) wrong = (command ≢ codes "copy") × (wrong ≡ placed 0 UnknownCommand)
+IsFaultBetween (command ∷ before) (word ∷ after) wrong =
+    (wrong.place ≡ length (command ∷ before)) × IsFaultAs (is_option_behind before word) before word wrong.fault
+IsFaultBetween (command ∷ before) [] wrong = IsFaultOfAll before wrong
+
+-- This is wrong with the words, and nothing is wrong with a word in front of it.
 pub record IsFirstFault (words : List (List ℕ)) (wrong : PlacedFault) : Type 0 where
   pub before : List (List ℕ)
   pub after : List (List ℕ)
   pub is : words ≡ before ++ after
-  pub place : wrong.place ≡ length before
-  pub fault : fault_between before after ≡ Some wrong.fault
+  pub fault : IsFaultBetween before after wrong
   pub first : (front : List (List ℕ)) (word : List ℕ) (back : List (List ℕ)) → before ≡ front ++ word ∷ back
-      → fault_between front (word ∷ back) ≡ None
+      → (other : PlacedFault) → IsFaultBetween front (word ∷ back) other → ⊥
+
+-- The same as it is read from left to right, for the crate's own functions. `proofs/Plans.antt` proves that they agree.
+
+-- the type of a column that a word is the text of
+abbrev pub type_of : List ℕ → Option Shape
+type_of word = if has_record word then None else result_ok (read_tokens 0 start (tokens word))
+
+abbrev pub as_word_fault : TypeFault → WordFault
+as_word_fault (Syntax place) = BadType place
+as_word_fault (TooDeep place) = DeepType place
+as_word_fault NoMemory = NotYet
+
+-- what is wrong with the text of a column's type
+abbrev pub type_fault_of : List ℕ → Option WordFault
+type_fault_of word =
+    option_or
+    (option_map as_word_fault (result_err (read_tokens 0 start (tokens word))))
+    (if has_record word then Some NotYet else None)
+
+-- what is wrong with a word behind these words, the command not among them
+abbrev pub word_fault : List (List ℕ) → List ℕ → Option WordFault
+word_fault before word = if is_option_behind before word then option_fault before word else type_fault_of word
+
+-- what is wrong with all words behind the command together, where nothing is wrong with one of them
+abbrev pub fault_of_all : List (List ℕ) → Option PlacedFault
+fault_of_all words =
+    columns_fault (1 + (length words - length (filter_map type_of words))) (filter_map type_of words)
+
+-- what is wrong at the place between the words `before` and the words `after`
+abbrev pub fault_between : List (List ℕ) → List (List ℕ) → Option PlacedFault
+fault_between [] [] = Some (placed 0 NoCommand)
+fault_between [] (command ∷ after) = if bytes_eq command (codes "copy") then None else Some (placed 0 UnknownCommand)
+fault_between (command ∷ before) (word ∷ after) =
+    option_map (placed (length (command ∷ before))) (word_fault before word)
+fault_between (command ∷ before) [] = fault_of_all before
 
 -- the first fault at a place not before the words `after`, where the words `before` stand in front of them
 abbrev pub first_fault : List (List ℕ) → List (List ℕ) → Option PlacedFault
-first_fault before [] = option_map (λ fault. record { place = length before; fault = fault }) (fault_between before [])
+first_fault before [] = fault_between before []
 first_fault before (word ∷ after) =
-    option_or
-    (option_map (λ fault. record { place = length before; fault = fault }) (fault_between before (word ∷ after)))
-    (first_fault (before ++ word ∷ []) after)
+    option_or (fault_between before (word ∷ after)) (first_fault (before ++ word ∷ []) after)
 
 -- the number that an option sets, or else its default
 abbrev pub number_in : List ℕ → ℕ → List (List ℕ) → ℕ

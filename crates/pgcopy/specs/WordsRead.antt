@@ -1,15 +1,13 @@
 -- What the program keeps of the words that it has read, and of a plan.
-use Rattle.std.specs.Prelude.{◌≡◌, ℕ, ◌≤◌, ◌==◌, List, length, codes, option_map, IfSome, if◌then◌else◌}
+use Rattle.std.specs.Prelude.{◌≡◌, ℕ, ◌-◌, ◌≤◌, ◌<◌, ◌==◌, List, [], length, codes, option_map, IfSome}
 use Rattle.std.specs.List.{filter_map, list_all}
 use Rattle.std.specs.Str.Parse.{digits_value}
-use Rattle.pgw_meta.specs.Shape.{Shape, nullable, array, range, multirange}
-use Rattle.pgw_meta.specs.Types.{shape, column_shapes}
-use Rattle.pgcopy.specs.declared.words.NamedType.{NamedType}
-use Rattle.pgcopy.specs.declared.words.Single.{Single}
-use Rattle.pgcopy.specs.declared.words.Single.TheVariants.{Scalar, Range, Multirange}
+use Rattle.std.specs.Option.{unwrap_or}
+use Rattle.pgw_meta.specs.Types.{column_shapes}
+use Rattle.pgw_tree.specs.Limits.{default_limits}
 use Rattle.pgcopy.specs.declared.words.Plan.{Plan}
 use Rattle.pgcopy.specs.declared.words.WordsRead.{WordsRead}
-use Rattle.pgcopy.specs.Words.{type_of, is_option, digits_in, PlanData}
+use Rattle.pgcopy.specs.Words.{type_of, is_option, digits_in, columns_fault, first_fault, limits_in, PlanData}
 
 -- the numbers of the options among these words, and how many types they have
 pub record AreRead (seen : WordsRead) (words : List (List ℕ)) : Type 0 where
@@ -19,21 +17,17 @@ pub record AreRead (seen : WordsRead) (words : List (List ℕ)) : Type 0 where
   pub types : seen.types ≡ length (filter_map type_of words)
   pub begun : (seen.types == 0) ≡ list_all is_option words
 
--- the type of what is kept of a name
-abbrev pub single_shape : Single → Shape
-single_shape (Scalar t) = shape t
-single_shape (Range part) = range (shape part)
-single_shape (Multirange part) = multirange (shape part)
-
--- what a value of it is that is not null: one of such a type, or an array of such
-abbrev pub part_shape : NamedType → Shape
-part_shape named =
-    if named.is_array then array (if named.null_elements then nullable (single_shape named.single) else single_shape named.single)
-    else single_shape named.single
-
--- the column type of what is kept of a word that names one
-abbrev pub named_shape : NamedType → Shape
-named_shape named = if named.or_null then nullable (part_shape named) else part_shape named
+-- Nothing is wrong with a single one of these words, and this is what their options and their types are. There are 1 to
+-- 32767 types.
+pub record AreColumns (seen : WordsRead) (words : List (List ℕ)) : Type 0 where
+  pub rows : unwrap_or seen.rows default_limits.rows_max ≡ (limits_in words).rows_max
+  pub field : unwrap_or seen.field default_limits.field_max ≡ (limits_in words).field_max
+  pub field_fits : IfSome seen.field (λ n. n ≤ 2147483647)
+  pub types : seen.types ≡ length (filter_map type_of words)
+  pub some : 1 ≤ seen.types
+  pub few : seen.types ≤ 32767
+  pub fewer : seen.types < length words
+  pub fault : first_fault [] words ≡ columns_fault (length words - seen.types) (filter_map type_of words)
 
 -- what a plan asks for
 abbrev pub plan_data : Plan → PlanData

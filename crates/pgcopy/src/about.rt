@@ -40,13 +40,17 @@ null, so that 'int4?[]?' is null or an array of numbers and nulls:
   int4multirange, int8multirange, nummultirange, datemultirange, tsmultirange,
   tstzmultirange
                any number of such ranges
+  @[SCHEMA.]NAME:text
+               a type of this name that is sent as text, as citext or an enum;
+               arrays of it need its oid=
 
 options, in front of the types; rows= and field= at most once:
   rows=N   refuse a stream of more than N rows, N up to 18446744073709551615
   field=N  refuse a value of more than N bytes, N up to 2147483647
   oid=[SCHEMA.]NAME:OID:ARRAYOID
            the oids of a type and of its arrays, up to 4294967295, once for each
-           schema and name; without SCHEMA it is public. No TYPE needs it yet
+           schema and name; without SCHEMA it is public. Arrays of a type
+           with an @ need it
 
 exit status:
   0  the whole stream was copied

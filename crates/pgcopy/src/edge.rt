@@ -5,7 +5,7 @@ ghost use Rattle.pgw_tree.specs.Stream.{IsValidStream};
 ghost use Rattle.std.specs.Io.{ReadsAtMost};
 ghost use Rattle.std.specs.Io.KnownBytes.{Appends, ReadConsumes};
 ghost use Rattle.std.specs.IoError.{error_kind};
-ghost use Rattle.pgcopy.specs.Words.{texts, PlanData, IsPlan, HasNoPlan, PlacedFault, IsFirstFault, missing};
+ghost use Rattle.pgcopy.specs.Words.{texts, PlanData, IsPlan, HasNoPlan, PlacedFault, IsFirstFault, IsOfAColumn, missing};
 ghost use Rattle.pgcopy.specs.Report.{line_of, unknown_text, fault_status};
 ghost use Rattle.pgcopy.specs.Lent.{GotFront, CopiedOut, StoppedOut};
 
@@ -82,10 +82,18 @@ pub fn copy<I: Read + Drop, O: Write, E: Write>(
     output: &mut O,
     errors: &mut E,
 ) -> io::Result<Status>
-    // The words alone decide on status 1, and there the output gets nothing.
-    ensures words { IfOk result (λ status. (status ≡ Status.Words) ↔ HasNoPlan (texts words.now)) }
-    ensures words_line { IfOk result (λ _. (wrong : PlacedFault) → IsFirstFault (texts words.now) wrong
+    // Status 1 comes exactly where no plan is what the words ask for, unless memory runs out where the type of a column is
+    // wrong. There the output gets nothing. Statuses other than these two come only where there is a plan.
+    ensures words { IfOk result (λ status. status ≡ Status.Words → HasNoPlan (texts words.now)) }
+    ensures planned { IfOk result (λ status. status ≢ Status.Words → status ≢ Status.NoMemory
+        → (plan : PlanData) × IsPlan (texts words.now) plan) }
+    ensures no_plan { IfOk result (λ status. (wrong : PlacedFault) → IsFirstFault (texts words.now) wrong
+        → (status ≡ Status.Words) ⊎ ((status ≡ Status.NoMemory) × IsOfAColumn wrong.fault)) }
+    ensures words_line { IfOk result (λ status. (wrong : PlacedFault) → IsFirstFault (texts words.now) wrong
+        → status ≡ Status.Words
         → GotFront (E.contents errors.old) (E.contents errors.new) (line_of (Outcome.BadWord wrong.place wrong.fault))) }
+    ensures memory_line { IfOk result (λ status. HasNoPlan (texts words.now) → status ≡ Status.NoMemory
+        → GotFront (E.contents errors.old) (E.contents errors.new) (line_of (Outcome.Fault CopyFault.NoMemory))) }
     ensures untouched { IfOk result (λ _. HasNoPlan (texts words.now)
         → Appends (O.contents output.old) (O.contents output.new) []) }
 
@@ -97,9 +105,10 @@ pub fn copy<I: Read + Drop, O: Write, E: Write>(
         × (n : ℕ) × CopiedOut plan n (I.remaining input) (O.contents output.old) (O.contents output.new)
         (E.contents errors.old) (E.contents errors.new)) }
 
-    // Each other status is that of a fault, which its line tells, and which says what was read and what was written.
-    ensures fault { IfOk result (λ status. status ≢ Status.Copied → status ≢ Status.Words
-        → (plan : PlanData) × IsPlan (texts words.now) plan × (fault : CopyFault) × (status ≡ fault_status fault)
+    // Where there is a plan, each other status is that of a fault, which its line tells, and which says what was read and
+    // what was written.
+    ensures fault { IfOk result (λ status. (plan : PlanData) → IsPlan (texts words.now) plan → status ≢ Status.Copied
+        → (fault : CopyFault) × (status ≡ fault_status fault)
         × StoppedOut plan fault (I.remaining input) (O.contents output.old) (O.contents output.new)
         (E.contents errors.old) (E.contents errors.new)) }
 

@@ -71,12 +71,14 @@ const COPIED: [(CopyFault, &str); 12] = [
     (CopyFault::WriteFault, "write fault"),
 ];
 
-const WORDS: [(WordFault, &str); 8] = [
+const WORDS: [(WordFault, &str); 10] = [
     (WordFault::NoCommand, "missing command"),
     (WordFault::UnknownCommand, "unknown command"),
     (WordFault::BadNumber, "bad number"),
     (WordFault::Repeated, "repeated option"),
     (WordFault::BadOid, "bad oid word"),
+    (WordFault::BadType(5), "bad type at 5"),
+    (WordFault::DeepType(66), "type too deep at 66"),
     (WordFault::NoTypes, "missing type"),
     (WordFault::Schema(2), "schema fault 2"),
     (WordFault::NotYet, "not supported yet"),

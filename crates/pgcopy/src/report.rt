@@ -109,6 +109,8 @@ fn fault_text<'a>(fault: WordFault, number: &'a mut Buffer) -> (&'static [u8], &
         WordFault::BadNumber => (b"bad number", b""),
         WordFault::Repeated => (b"repeated option", b""),
         WordFault::BadOid => (b"bad oid word", b""),
+        WordFault::BadType(place) => (b"bad type at ", number.format(place).as_bytes()),
+        WordFault::DeepType(place) => (b"type too deep at ", number.format(place).as_bytes()),
         WordFault::NoTypes => (b"missing type", b""),
         WordFault::Schema(fault) => (b"schema fault ", number.format(fault).as_bytes()),
         WordFault::NotYet => (b"not supported yet", b""),

@@ -1,4 +1,4 @@
-ghost use Rattle.std.specs.Prelude.{◌≡◌, ◌≢◌, ◌≤◌, ◌↔◌, ◌⊎◌, ⊤, ℕ, ◌++◌, codes, Err, Some, None, true, option_map, IfOk, IfErr, IsErr, IsOkAnd, IsOkUnless, OnOk};
+ghost use Rattle.std.specs.Prelude.{◌≡◌, ◌≢◌, ◌≤◌, ◌⊎◌, ⊤, ℕ, ◌++◌, codes, Err, Some, None, true, option_map, IfOk, IfErr, IsOk, IsErr, IsOkAnd, IsOkUnless, OnOk};
 ghost use Rattle.pgw_wire.specs.Outside.{left, settled, HasFailed, Took, HasFront, HasNoFront, Gains};
 ghost use Rattle.pgw_meta.specs.Known.{Key};
 ghost use Rattle.pgw_meta.specs.Types.{column_shapes};
@@ -6,7 +6,7 @@ ghost use Rattle.pgw_tree.specs.ColumnTypes.{AreBuilt};
 ghost use Rattle.pgw_tree.specs.Lookups.{IsUnknownType};
 ghost use Rattle.pgw_tree.specs.Stream.{IsValidStream};
 ghost use Rattle.pgcopy.specs.OidWords.{AreEntries};
-ghost use Rattle.pgcopy.specs.Words.{texts, PlanData, IsPlan, HasNoPlan, PlacedFault, IsFirstFault, plan_of, missing};
+ghost use Rattle.pgcopy.specs.Words.{texts, PlanData, IsPlan, HasNoPlan, PlacedFault, IsFirstFault, IsOfAColumn, plan_of, missing};
 ghost use Rattle.pgcopy.specs.WordsRead.{plan_data};
 ghost use Rattle.pgcopy.specs.Runs.{CopiedRows, MetFault};
 ghost use Rattle.pgcopy.specs.Report.{line_of, unknown_text, fault_status, status_of, WroteUnlessFailed};
@@ -59,7 +59,8 @@ fn execute<S: Source, K: Sink>(
     source: &mut S,
     sink: &mut K,
 ) -> Outcome
-    ensures bad_word { IfErr (plan_of words.now) (λ f. result ≡ Outcome.BadWord f.place f.fault) }
+    ensures bad_word { IfErr (plan_of words.now) (λ wrong. (result ≡ Outcome.BadWord wrong.place wrong.fault)
+        ⊎ ((result ≡ Outcome.Fault CopyFault.NoMemory) × IsOfAColumn wrong.fault)) }
     ensures source_untouched { IfErr (plan_of words.now) (λ _. source.new ≡ source.old) }
     ensures sink_untouched { IfErr (plan_of words.now) (λ _. sink.new ≡ sink.old) }
     ensures words { status_of result ≡ Status.Words → IsErr (plan_of words.now) }
@@ -69,8 +70,9 @@ fn execute<S: Source, K: Sink>(
         × CopiedRows plan n (S.state source.old) (S.state source.new) (K.state sink.old) (K.state sink.new)) }
     ensures settled { status_of result ≡ Status.Copied
         → settled (K.state sink.new) ≡ option_map (λ _. true) (settled (K.state sink.old)) }
-    ensures fault { status_of result ≢ Status.Copied → status_of result ≢ Status.Words
-        → IsOkAnd (plan_of words.now) (λ plan. (fault : CopyFault) × (result ≡ Outcome.Fault fault)
+    ensures planned { status_of result ≢ Status.Words → status_of result ≢ Status.NoMemory → IsOk (plan_of words.now) }
+    ensures fault { IfOk (plan_of words.now) (λ plan. status_of result ≢ Status.Copied
+        → (fault : CopyFault) × (result ≡ Outcome.Fault fault)
         × MetFault plan fault (S.state source.old) (S.state source.new) (K.state sink.old) (K.state sink.new)) }
     ensures unread { status_of result ≡ Status.UnknownType → source.new ≡ source.old }
     ensures unwritten { status_of result ≡ Status.UnknownType → sink.new ≡ sink.old }
@@ -106,8 +108,8 @@ fn execute<S: Source, K: Sink>(
 /// The command `copy`, options and column types copy a stream of rows of these columns, as PostgreSQL's
 /// `COPY .. (FORMAT binary)` has it, from the source to the sink. `rows=` limits how many rows the stream has, and
 /// `field=` how many bytes the canonical form of a field has; `oid=` gives the oids of a type, which are looked up before
-/// anything is read, where the columns need them. The canonical form of an array has the oid of its elements' type; since
-/// words name PostgreSQL's own types and arrays of these, no column needs an oid of the words so far.
+/// anything is read, where the columns need them: the canonical form of an array has the oid of its elements' type, and that
+/// of a type with a key of its own, as `@citext:text`, is the oid that `oid=` gives its key.
 ///
 /// | status | cause | line |
 /// |---|---|---|
@@ -137,11 +139,19 @@ pub fn run<S: Source, K: Sink, N: Sink>(
     sink: &mut K,
     notes: &mut N,
 ) -> Status
-    // The words alone decide on status 1, and there nothing is read or written.
-    ensures words { (result ≡ Status.Words) ↔ HasNoPlan (texts words.now) }
+    // Status 1 comes exactly where no plan is what the words ask for, unless memory runs out where the type of a column is
+    // wrong though each word is the text of a type. In both cases nothing is read or written, and the line tells which
+    // it is. Statuses other than these two come only where there is a plan.
+    ensures words { result ≡ Status.Words → HasNoPlan (texts words.now) }
+    ensures planned { result ≢ Status.Words → result ≢ Status.NoMemory
+        → (plan : PlanData) × IsPlan (texts words.now) plan }
+    ensures no_plan { (wrong : PlacedFault) → IsFirstFault (texts words.now) wrong
+        → (result ≡ Status.Words) ⊎ ((result ≡ Status.NoMemory) × IsOfAColumn wrong.fault) }
     ensures first_fault { HasNoPlan (texts words.now) → (wrong : PlacedFault) × IsFirstFault (texts words.now) wrong }
-    ensures words_line { (wrong : PlacedFault) → IsFirstFault (texts words.now) wrong
+    ensures words_line { (wrong : PlacedFault) → IsFirstFault (texts words.now) wrong → result ≡ Status.Words
         → WroteUnlessFailed (N.state notes.old) (N.state notes.new) (line_of (Outcome.BadWord wrong.place wrong.fault)) }
+    ensures memory_line { HasNoPlan (texts words.now) → result ≡ Status.NoMemory
+        → WroteUnlessFailed (N.state notes.old) (N.state notes.new) (line_of (Outcome.Fault CopyFault.NoMemory)) }
     ensures source_untouched { HasNoPlan (texts words.now) → source.new ≡ source.old }
     ensures sink_untouched { HasNoPlan (texts words.now) → sink.new ≡ sink.old }
 
@@ -154,9 +164,10 @@ pub fn run<S: Source, K: Sink, N: Sink>(
     ensures settled { result ≡ Status.Copied
         → settled (K.state sink.new) ≡ option_map (λ _. true) (settled (K.state sink.old)) }
 
-    // Each other status is that of a fault, which its line tells, and which says what was taken and what was written.
-    ensures fault { result ≢ Status.Copied → result ≢ Status.Words
-        → (plan : PlanData) × IsPlan (texts words.now) plan × (fault : CopyFault) × (result ≡ fault_status fault)
+    // Where there is a plan, each other status is that of a fault, which its line tells, and which says what was taken and
+    // what was written.
+    ensures fault { (plan : PlanData) → IsPlan (texts words.now) plan → result ≢ Status.Copied
+        → (fault : CopyFault) × (result ≡ fault_status fault)
         × WroteUnlessFailed (N.state notes.old) (N.state notes.new) (line_of (Outcome.Fault fault))
         × MetFault plan fault (S.state source.old) (S.state source.new) (K.state sink.old) (K.state sink.new) }
 

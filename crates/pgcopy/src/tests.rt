@@ -487,7 +487,7 @@ const RUNS: [Run<'static>; 34] = [
         read_fail: NEVER,
         write_fail: NEVER,
         status: Status::Words,
-        line: b"word 1: not supported yet\n",
+        line: b"word 1: bad type at 0\n",
         output: b"",
         taken: 0,
     },

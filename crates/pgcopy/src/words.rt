@@ -1,20 +1,20 @@
-ghost use Rattle.std.specs.Prelude.{◌≡◌, ◌↔◌, if◌then◌else◌, ℕ, ◌≤◌, ◌<◌, List, [], ◌∷◌, ◌++◌, length, map, false, string_bytes, codes, Option, Some, None, is_some, option_map, Ok, Err, true, IfOk, IfErr, IfSome, IsOk, MatchResult};
+ghost use Rattle.std.specs.Prelude.{◌≡◌, ◌≢◌, ◌↔◌, ◌⊎◌, ◌+◌, ◌-◌, ◌≤◌, ◌<◌, [], ◌∷◌, ◌++◌, map, codes, string_bytes, Option, None, Some, is_some, option_map, Ok, Err, true, IfOk, IfErr, IfSome, MatchResult};
 ghost use Rattle.std.specs.List.{filter_map, list_all};
 ghost use Rattle.std.specs.Option.{unwrap_or};
-ghost use Rattle.pgw_meta.specs.Shape.{nullable};
 ghost use Rattle.pgw_meta.specs.NamedOids.{known_of};
 ghost use Rattle.pgw_meta.specs.Catalog.{in_schema};
 ghost use Rattle.pgw_meta.specs.Types.{shape, column_shapes, types_of};
-ghost use Rattle.pgw_meta.specs.Schema.{IsValidSchema};
+ghost use Rattle.pgw_meta.specs.Schema.{schema_fault, fault_number};
 ghost use Rattle.pgw_tree.specs.ColumnTypes.{AreBuilt};
 ghost use Rattle.pgw_tree.specs.Limits.{default_limits};
 ghost use Rattle.pgcopy.specs.OidWords.{given_entry};
-ghost use Rattle.pgcopy.specs.Words.{type_names, look_up, in_front, single_of, or_null, array_or_single, type_of, behind, is_option, entry_of, number_of, option_fault, word_fault, first_fault, PlanData, IsPlan, HasNoPlan, PlacedFault, IsFirstFault, plan_of, texts};
-ghost use Rattle.pgcopy.specs.WordsRead.{AreRead, single_shape, part_shape, named_shape, plan_data};
+ghost use Rattle.pgcopy.specs.Words.{has_record, behind, is_option, type_of, as_word_fault, type_fault_of, entry_of, number_of, option_fault, word_fault, place_of, first_fault, PlanData, IsPlan, HasNoPlan, PlacedFault, placed, IsFirstFault, IsOfAColumn, plan_of, texts};
+ghost use Rattle.pgcopy.specs.WordsRead.{AreRead, AreColumns, plan_data};
 
 use crate::numbers::read_number;
 use crate::oid_words::{GivenOids, given_oids};
 use pgw_meta::{Found, FoundOids, PgType, Schema, SchemaError, TypeKey, TypeList};
+use pgw_notation::{TypeFault, parse_type, type_fault};
 use pgw_tree::{FIELD_MAX, Limits};
 use pgw_wire::NoMemory;
 use std::alloc::Global;
@@ -45,13 +45,20 @@ pub enum WordFault {
     /// `_`, and numbers of at most 4294967295.
     #[error("bad oid word")]
     BadOid,
+    /// The word is no text of a type: at this byte something begins that cannot stand there, or the word ends too early.
+    #[error("bad type at {0}")]
+    BadType(usize),
+    /// At this byte of the word a `(` stands while 31 records are open, or a `?` or `[]` behind 31 of these.
+    #[error("type too deep at {0}")]
+    DeepType(usize),
     /// The command has no column types.
     #[error("missing type")]
     NoTypes,
-    /// The types make no schema, by the number of the fault. 2: there are more than 32767 columns.
+    /// The types are not those of a schema's columns, by the number of `SchemaError`. 2: there are more than 32767
+    /// columns. Each other is of the column that the word names.
     #[error("schema fault {0}")]
     Schema(u8),
-    /// The word is none that is read yet: it names no such type.
+    /// The word names a type with a record in it, which is not copied yet.
     #[error("not supported yet")]
     NotYet,
 }
@@ -96,153 +103,34 @@ struct WordsRead {
     types: usize,
 }
 
-/// A type with a name of its own, for which no memory was asked yet: a scalar type, or ranges or multiranges over one.
-#[derive(Drop)]
-enum Single {
-    Scalar(PgType),
-    Range(PgType),
-    Multirange(PgType),
-}
-
-/// The type that a word names, for which no memory was asked yet: such a type or arrays of it, where elements may be null,
-/// and whether the column may be null.
-#[derive(Drop)]
-struct NamedType {
-    single: Single,
-    null_elements: bool,
-    is_array: bool,
-    or_null: bool,
-}
-
-/// The type of a name.
-fn single_named(name: &str) -> Option<Single>
-    ensures { option_map single_shape result ≡ look_up name.now type_names }
+/// Whether a record stands in a word that is the text of a type. Records are not copied yet.
+fn has_record(word: &str) -> bool
+    ensures { result ≡ has_record word.now }
 {
-    match name {
-        "bool" => Some(Single::Scalar(PgType::Bool)),
-        "char" => Some(Single::Scalar(PgType::Char)),
-        "int2" => Some(Single::Scalar(PgType::Int2)),
-        "int4" => Some(Single::Scalar(PgType::Int4)),
-        "int8" => Some(Single::Scalar(PgType::Int8)),
-        "oid" => Some(Single::Scalar(PgType::Oid)),
-        "text" => Some(Single::Scalar(PgType::Text)),
-        "bytea" => Some(Single::Scalar(PgType::Bytea)),
-        "uuid" => Some(Single::Scalar(PgType::Uuid)),
-        "money" => Some(Single::Scalar(PgType::Money)),
-        "pg_lsn" => Some(Single::Scalar(PgType::Lsn)),
-        "macaddr" => Some(Single::Scalar(PgType::Mac)),
-        "macaddr8" => Some(Single::Scalar(PgType::Mac8)),
-        "inet" => Some(Single::Scalar(PgType::Inet)),
-        "cidr" => Some(Single::Scalar(PgType::Cidr)),
-        "date" => Some(Single::Scalar(PgType::Date)),
-        "time" => Some(Single::Scalar(PgType::Time)),
-        "timestamp" => Some(Single::Scalar(PgType::Timestamp)),
-        "timestamptz" => Some(Single::Scalar(PgType::Timestamptz)),
-        "interval" => Some(Single::Scalar(PgType::Interval)),
-        "numeric" => Some(Single::Scalar(PgType::Numeric)),
-        "int4range" => Some(Single::Range(PgType::Int4)),
-        "int8range" => Some(Single::Range(PgType::Int8)),
-        "numrange" => Some(Single::Range(PgType::Numeric)),
-        "daterange" => Some(Single::Range(PgType::Date)),
-        "tsrange" => Some(Single::Range(PgType::Timestamp)),
-        "tstzrange" => Some(Single::Range(PgType::Timestamptz)),
-        "int4multirange" => Some(Single::Multirange(PgType::Int4)),
-        "int8multirange" => Some(Single::Multirange(PgType::Int8)),
-        "nummultirange" => Some(Single::Multirange(PgType::Numeric)),
-        "datemultirange" => Some(Single::Multirange(PgType::Date)),
-        "tsmultirange" => Some(Single::Multirange(PgType::Timestamp)),
-        "tstzmultirange" => Some(Single::Multirange(PgType::Timestamptz)),
-        _ => None,
+    word.as_bytes().iter().any(|byte| *byte == b'(')
+}
+
+/// What a fault of a text is as that of a word. A check takes no memory.
+fn as_word_fault(fault: TypeFault) -> WordFault
+    requires { fault ≢ TypeFault.NoMemory }
+    ensures { result ≡ as_word_fault fault }
+{
+    match fault {
+        TypeFault::Syntax { place } => WordFault::BadType(place),
+        TypeFault::TooDeep { place } => WordFault::DeepType(place),
+        TypeFault::NoMemory => unreachable!("a check takes no memory"),
     }
 }
 
-/// What stands in a word in front of a text, where it ends with it.
-fn in_front<'a>(word: &'a str, back: &str) -> Option<&'a str>
-    ensures { option_map (λ front. front.now) result ≡ in_front back.now word.now }
+/// What is wrong with a word that is to be the text of a column's type.
+fn type_fault_of(word: &str) -> Option<WordFault>
+    ensures { result ≡ type_fault_of word.now }
 {
-    word.strip_suffix(back)
-}
-
-/// The type of the elements of an array: that of the name in a word, and whether a `?` behind it says that elements may be
-/// null.
-fn element_of(word: &str) -> Option<(Single, bool)>
-    ensures { option_map (λ t. if t.1 then nullable (single_shape t.0) else single_shape t.0) result ≡ or_null single_of word.now }
-{
-    let marked = in_front(word, "?");
-    let single = single_named(marked.unwrap_or(word))?;
-    Some((single, marked.is_some()))
-}
-
-/// The type that a word names without null: one with a name of its own, or an array of elements.
-fn array_or_single(word: &str) -> Option<NamedType>
-    ensures part { option_map part_shape result ≡ array_or_single word.now }
-    ensures null { IfSome result (λ named. named.or_null ≡ false) }
-{
-    match in_front(word, "[]") {
-        Some(element) => {
-            let (single, null_elements) = element_of(element)?;
-            Some(NamedType {
-                single,
-                null_elements,
-                is_array: true,
-                or_null: false,
-            })
-        }
-        None => Some(NamedType {
-            single: single_named(word)?,
-            null_elements: false,
-            is_array: false,
-            or_null: false,
-        }),
+    match type_fault(word) {
+        Some(fault) => Some(as_word_fault(fault)),
+        None if has_record(word) => Some(WordFault::NotYet),
+        None => None,
     }
-}
-
-/// The type that a word names. A `?` at its end says that the column may be null.
-fn type_of(word: &str) -> Option<NamedType>
-    ensures { option_map named_shape result ≡ type_of word.now }
-{
-    let marked = in_front(word, "?");
-    let part = array_or_single(marked.unwrap_or(word))?;
-    Some(NamedType {
-        or_null: marked.is_some(),
-        ..part
-    })
-}
-
-/// The type, or it or null.
-fn or_null(alloc: Global, t: PgType, may_be_null: bool) -> Result<PgType, NoMemory>
-    ensures { IfOk result (λ column. shape column ≡ (if may_be_null then nullable (shape t) else shape t)) }
-{
-    if may_be_null {
-        Ok(PgType::Nullable(Box::new(alloc, t)?))
-    } else {
-        Ok(t)
-    }
-}
-
-/// The type with a name of its own.
-fn type_alone(alloc: Global, single: Single) -> Result<PgType, NoMemory>
-    ensures { IfOk result (λ t. shape t ≡ single_shape single) }
-{
-    match single {
-        Single::Scalar(t) => Ok(t),
-        Single::Range(part) => Ok(PgType::Range(Box::new(alloc, part)?)),
-        Single::Multirange(part) => Ok(PgType::Multirange(Box::new(alloc, part)?)),
-    }
-}
-
-/// The type of a column that a word names.
-fn column_of(alloc: Global, named: NamedType) -> Result<PgType, NoMemory>
-    ensures { IfOk result (λ column. shape column ≡ named_shape named) }
-{
-    let single = type_alone(alloc, named.single)?;
-    let part = if named.is_array {
-        let element = or_null(alloc, single, named.null_elements)?;
-        PgType::Array(Box::new(alloc, element)?)
-    } else {
-        single
-    };
-    or_null(alloc, part, named.or_null)
 }
 
 /// What stands in a word behind a text, where it begins with it.
@@ -331,13 +219,14 @@ fn read_word(seen: WordsRead, before: &[String], word: &str) -> Result<WordsRead
 {
     if seen.types == 0 && is_option(word) {
         read_option(seen, before, word)
-    } else if type_of(word).is_some() {
-        Ok(WordsRead {
-            types: seen.types + 1,
-            ..seen
-        })
     } else {
-        Err(WordFault::NotYet)
+        match type_fault_of(word) {
+            Some(fault) => Err(fault),
+            None => Ok(WordsRead {
+                types: seen.types + 1,
+                ..seen
+            }),
+        }
     }
 }
 
@@ -347,7 +236,7 @@ fn read_behind(words: &[String]) -> Result<WordsRead, (usize, WordFault)>
         × (first_fault (codes "copy" ∷ []) (map string_bytes words.now)
         ≡ first_fault (codes "copy" ∷ map string_bytes words.now) [])) }
     ensures err { IfErr result (λ e. first_fault (codes "copy" ∷ []) (map string_bytes words.now)
-        ≡ Some (record { place = e.0; fault = e.1 })) }
+        ≡ Some (placed e.0 e.1)) }
 {
     let mut seen = WordsRead {
         rows: None,
@@ -363,20 +252,10 @@ fn read_behind(words: &[String]) -> Result<WordsRead, (usize, WordFault)>
     Ok(seen)
 }
 
-/// Reads all words, the command too. An error has its place.
+/// Reads all words, the command too, but for whether their types are those of a schema's columns. An error has its place.
 fn read_all(words: &[String]) -> Result<WordsRead, (usize, WordFault)>
-    ensures ok { IfOk result (λ seen. plan_of words.now ≡ Ok (record {
-      limits = record {
-        rows_max = unwrap_or seen.rows default_limits.rows_max;
-        field_max = unwrap_or seen.field default_limits.field_max;
-      };
-      entries = filter_map entry_of (map string_bytes words.now);
-      columns = filter_map type_of (map string_bytes words.now);
-    })) }
-    ensures field { IfOk result (λ seen. IfSome seen.field (λ field. field ≤ 2147483647)) }
-    ensures some { IfOk result (λ seen. 1 ≤ length (filter_map type_of (map string_bytes words.now))) }
-    ensures few { IfOk result (λ seen. length (filter_map type_of (map string_bytes words.now)) ≤ 32767) }
-    ensures err { IfErr result (λ e. plan_of words.now ≡ Err (record { place = e.0; fault = e.1 })) }
+    ensures ok { IfOk result (λ seen. AreColumns seen (map string_bytes words.now)) }
+    ensures err { IfErr result (λ e. plan_of words.now ≡ Err (placed e.0 e.1)) }
 {
     let Some((command, rest)) = words.split_first() else {
         return Err((0, WordFault::NoCommand));
@@ -411,33 +290,67 @@ fn known_entries(alloc: Global, words: &[String]) -> Result<FoundOids, NoMemory>
     Ok(entries)
 }
 
-/// The types that the words name, in their order.
+/// The type of a column that a word is the text of, where it is that of one.
+fn column_of(alloc: Global, word: &str) -> Result<Option<PgType>, NoMemory>
+    ensures { IfOk result (λ column. option_map shape column ≡ type_of word.now) }
+{
+    if has_record(word) {
+        return Ok(None);
+    }
+    match parse_type(alloc, word) {
+        Ok(t) => Ok(Some(t)),
+        Err(TypeFault::Syntax { .. }) => Ok(None),
+        Err(TypeFault::TooDeep { .. }) => Ok(None),
+        Err(TypeFault::NoMemory) => Err(NoMemory),
+    }
+}
+
+/// The types that the words are the texts of, in their order. The command and the options are none.
 fn known_types(alloc: Global, words: &[String]) -> Result<TypeList, NoMemory>
     ensures { IfOk result (λ columns. column_shapes (types_of columns) ≡ filter_map type_of (map string_bytes words.now)) }
 {
     let mut columns = TypeList::new(alloc);
     for word in words {
-        if let Some(named) = type_of(word.as_str()) {
-            columns.push(column_of(alloc, named)?)?;
+        if let Some(t) = column_of(alloc, word.as_str())? {
+            columns.push(t)?;
         }
     }
     Ok(columns)
 }
 
-/// The schema of the types that the words name, which are 1 to 32767.
-fn known_schema(alloc: Global, words: &[String]) -> Result<Schema, NoMemory>
-    requires some { 1 ≤ length (filter_map type_of (map string_bytes words.now)) }
-    requires few { length (filter_map type_of (map string_bytes words.now)) ≤ 32767 }
+/// The schema of the types that the words are the texts of.
+fn known_schema(alloc: Global, words: &[String]) -> Result<Schema, SchemaError>
     ensures types { IfOk result (λ schema. column_shapes schema ≡ filter_map type_of (map string_bytes words.now)) }
     ensures built { IfOk result (λ schema. AreBuilt (column_shapes schema)) }
+    ensures none { IfOk result (λ _. schema_fault (filter_map type_of (map string_bytes words.now)) ≡ None) }
+    ensures fault { IfErr result (λ e. (e ≡ SchemaError.NoMemory)
+        ⊎ (schema_fault (filter_map type_of (map string_bytes words.now)) ≡ Some e)) }
 {
     let columns = known_types(alloc, words)?;
-    match Schema::new(alloc, columns) {
-        Ok(schema) => Ok(schema),
-        Err(error) => match error {
-            SchemaError::NoMemory => Err(NoMemory),
-            _ => unreachable!("the columns are valid"),
-        },
+    Schema::new(alloc, columns)
+}
+
+/// The fault of a column's word, where the first column is that of the word at this place.
+fn column_fault(first: usize, behind: usize, error: SchemaError) -> WordError
+    requires fits { place_of first behind error ≤ behind }
+    ensures memory { error ≡ SchemaError.NoMemory → result ≡ WordError.NoMemory }
+    ensures placed { error ≢ SchemaError.NoMemory
+        → result ≡ WordError.Fault (place_of first behind error) (WordFault.Schema (fault_number error)) }
+{
+    let place = match error {
+        SchemaError::NoMemory => return WordError::NoMemory,
+        SchemaError::NoColumns | SchemaError::TooManyColumns => behind,
+        SchemaError::NestedNullable { column }
+        | SchemaError::NestedArray { column }
+        | SchemaError::BadRange { column }
+        | SchemaError::EmptyRecord { column }
+        | SchemaError::WideRecord { column }
+        | SchemaError::BadNamed { column }
+        | SchemaError::TooDeep { column } => first + column,
+    };
+    WordError::Fault {
+        place,
+        fault: WordFault::Schema(error.number()),
     }
 }
 
@@ -454,38 +367,42 @@ fn limits_from(seen: WordsRead) -> Limits
     Limits::new(rows, field as u32).unwrap()
 }
 
-/// What the words ask for: the command `copy`, which is the only one, then options, and then a type for each column.
-/// `rows=` and `field=` stand there at most once, and `oid=[schema.]name:OID:ARRAYOID` at most once for each schema and
-/// name, where a name without a schema stands in the schema `public`. `IsPlan` says it.
+/// What the words ask for: the command `copy`, which is the only one, then options, and then the text of a type for each
+/// column. `rows=` and `field=` stand there at most once, and `oid=[schema.]name:OID:ARRAYOID` at most once for each
+/// schema and name, where a name without a schema stands in the schema `public`. `IsPlan` says it.
 ///
-/// Where no plan is what they ask for, the error is their first fault from the left. `IsFirstFault` says which that is.
-/// Memory is asked for only where there is a plan.
+/// Where no plan is what they ask for, the error is their first fault from the left; what is wrong with a column's type,
+/// though each word is the text of one, comes behind all others. `IsFirstFault` says which that is. Memory is asked for
+/// only where there is a plan, or such a fault.
 #[tactic(auto, using(crate::proofs::Plans::found_is_plan, crate::proofs::Plans::found_is_first))]
 pub fn read_words(alloc: Global, words: &[String]) -> Result<Plan, WordError>
     ensures plan { IfOk result (λ plan. plan_of words.now ≡ Ok (plan_data plan)) }
     ensures is_plan { IfOk result (λ plan. IsPlan (map string_bytes words.now) (plan_data plan)) }
     ensures built { IfOk result (λ plan. AreBuilt (column_shapes plan.schema)) }
     ensures fault { (place : _) (fault : _) → result ≡ Err (WordError.Fault place fault)
-        → plan_of words.now ≡ Err (record { place = place; fault = fault }) }
+        → plan_of words.now ≡ Err (placed place fault) }
     ensures no_plan { (place : _) (fault : _) → result ≡ Err (WordError.Fault place fault)
         → HasNoPlan (map string_bytes words.now) }
     ensures first_fault { (place : _) (fault : _) → result ≡ Err (WordError.Fault place fault)
-        → IsFirstFault (map string_bytes words.now) (record { place = place; fault = fault }) }
-    ensures no_memory { result ≡ Err WordError.NoMemory → IsOk (plan_of words.now) }
-    ensures with_plan { result ≡ Err WordError.NoMemory
-        → (plan : PlanData) × IsPlan (map string_bytes words.now) plan }
+        → IsFirstFault (map string_bytes words.now) (placed place fault) }
+
+    // Want of memory comes in place of a plan, or of the fault of a column's type.
+    ensures no_memory { result ≡ Err WordError.NoMemory → IfErr (plan_of words.now) (λ wrong. IsOfAColumn wrong.fault) }
 
     // `plan_of` is the plan where there is one, and else the first fault.
     ensures plans { (plan : PlanData) → (plan_of words.now ≡ Ok plan) ↔ IsPlan (map string_bytes words.now) plan }
-    ensures faults { (fault : PlacedFault)
-        → (plan_of words.now ≡ Err fault) ↔ IsFirstFault (map string_bytes words.now) fault }
+    ensures faults { (wrong : PlacedFault)
+        → (plan_of words.now ≡ Err wrong) ↔ IsFirstFault (map string_bytes words.now) wrong }
 {
     let seen = match read_all(words) {
         Ok(seen) => seen,
         Err((place, fault)) => return Err(WordError::Fault { place, fault }),
     };
     let entries = known_entries(alloc, words)?;
-    let schema = known_schema(alloc, words)?;
+    let schema = match known_schema(alloc, words) {
+        Ok(schema) => schema,
+        Err(error) => return Err(column_fault(words.len() - seen.types, words.len(), error)),
+    };
     let limits = limits_from(seen);
     Ok(Plan {
         limits,

@@ -16,7 +16,7 @@ fn read(rt: &impl Abort, alloc: Global, words: &[&str]) -> Result<(u64, u32, usi
 }
 
 // words, the limits that they set, and how many columns they have
-const LIMITS: [(&[&str], u64, u32, usize); 12] = [
+const LIMITS: [(&[&str], u64, u32, usize); 13] = [
     (
         &[
             "copy", "bool", "char?", "int2", "int4?", "int8", "oid", "text", "bytea?", "uuid",
@@ -29,6 +29,12 @@ const LIMITS: [(&[&str], u64, u32, usize); 12] = [
     (&["copy", "int4"], 18446744073709551615, 2147483647, 1),
     (
         &["copy", "int8range", "tsmultirange?", "numrange?[]"],
+        18446744073709551615,
+        2147483647,
+        3,
+    ),
+    (
+        &["copy", "@citext:text?", "@my.mood:text[]", "@t:text?[]?"],
         18446744073709551615,
         2147483647,
         3,
@@ -64,8 +70,11 @@ const LIMITS: [(&[&str], u64, u32, usize); 12] = [
     ),
 ];
 
+// a base with one suffix more than may stand behind it
+const DEEP: &str = "int4[][][][][][][][][][][][][][][][][][][][][][][][][][][][][][][][]";
+
 // words, the place of the first that is wrong, and what is wrong
-const FAULTS: [(&[&str], usize, WordFault); 26] = [
+const FAULTS: [(&[&str], usize, WordFault); 35] = [
     (
         &["copy", "rows=1", "rows=2", "int4"],
         2,
@@ -120,12 +129,29 @@ const FAULTS: [(&[&str], usize, WordFault); 26] = [
         2,
         WordFault::BadOid,
     ),
-    (&["copy", "int4", "oid=t:1:2"], 2, WordFault::NotYet),
-    (&["copy", "int4", "rows=1"], 2, WordFault::NotYet),
-    (&["copy", "int4", "rows=x"], 2, WordFault::NotYet),
-    (&["copy", "rows=1", "int9", "rows=1"], 2, WordFault::NotYet),
-    (&["copy", "Rows=1", "int4"], 1, WordFault::NotYet),
-    (&["copy", "rows", "int4"], 1, WordFault::NotYet),
+    (&["copy", "int4", "oid=t:1:2"], 2, WordFault::BadType(3)),
+    (&["copy", "int4", "rows=1"], 2, WordFault::BadType(0)),
+    (&["copy", "int4", "rows=x"], 2, WordFault::BadType(0)),
+    (
+        &["copy", "rows=1", "int9", "rows=1"],
+        2,
+        WordFault::BadType(0),
+    ),
+    (&["copy", "Rows=1", "int4"], 1, WordFault::BadType(0)),
+    (&["copy", "rows", "int4"], 1, WordFault::BadType(0)),
+    (&["copy", ""], 1, WordFault::BadType(0)),
+    (&["copy", "text", "int4?)"], 2, WordFault::BadType(5)),
+    (&["copy", "@citext:int4"], 1, WordFault::BadType(8)),
+    (&["copy", "(int4,", "int4"], 1, WordFault::BadType(6)),
+    (&["copy", "(int4,text)"], 1, WordFault::NotYet),
+    (&["copy", DEEP], 1, WordFault::DeepType(66)),
+    (&["copy", "text", "int4??"], 2, WordFault::Schema(3)),
+    (
+        &["copy", "rows=1", "int4[]?[]", "int4??"],
+        2,
+        WordFault::Schema(4),
+    ),
+    (&["copy", "int4??", "int"], 2, WordFault::BadType(0)),
     (&["copy", "rows=1"], 2, WordFault::NoTypes),
     (&["copy", "rows=1", "field=1"], 3, WordFault::NoTypes),
 ];

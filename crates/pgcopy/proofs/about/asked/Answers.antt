@@ -1,7 +1,7 @@
 use Rattle.std.proofs.Common.{◌≡◌, ℕ, false, List, [], ◌∷◌, length, get_or, refl, sym, ap, ◌∙◌, arith}
 use Rattle.std.specs.Prelude.{String, string_bytes, codes}
 use Rattle.pgcopy.specs.Words.{asks_about}
-use Rattle.pgcopy.proofs.TypeNames.{differs}
+use Rattle.pgcopy.proofs.Options.{differs}
 use Rattle.pgcopy.proofs.about.asked.Goals as goal
 
 -- A word that is none of the three asks for nothing.

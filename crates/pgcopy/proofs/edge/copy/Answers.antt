@@ -10,10 +10,9 @@ use Rattle.pgw_tree.proofs.Excluded.{excluded}
 use Rattle.pgcopy.specs.declared.report.Status.{Status}
 use Rattle.pgcopy.specs.declared.report.Status.TheVariants.{Copied as status_copied, Words as status_words, Refused as status_refused, Outside as status_outside, UnknownType as status_unknown_type, NoMemory as status_no_memory}
 use Rattle.pgcopy.specs.Report.{fault_status}
-use Rattle.pgcopy.specs.Words.{texts, PlanData, missing, canonical_rows}
+use Rattle.pgcopy.specs.Words.{PlanData, missing, canonical_rows}
 use Rattle.pgcopy.specs.Runs.{MetFault}
 use Rattle.pgcopy.proofs.Looked.{no_lookup, says_of_stream}
-use Rattle.pgcopy.proofs.Plans.{plan_once}
 use Rattle.std.specs.Io.Buffered.{writer_inner, writer_buffer}
 use Rattle.pgcopy.proofs.Reached.{arrives, got_none, appends_none, told_of, line_got, copied_out, stopped_out}
 use Rattle.pgcopy.proofs.edge.copy.Goals as goal
@@ -40,14 +39,14 @@ outside_status fault (inl is) = inl (ap fault_status is)
 outside_status fault (inr (inl is)) = inl (ap fault_status is)
 outside_status fault (inr (inr is)) = inr (ap fault_status is)
 
--- A run of words that are a plan copied, or had a fault.
-by_status : (status : Status) (P : Type 0) → (status ≢ status_words) → (status ≢ status_copied → status ≢ status_words → P) → (status ≡ status_copied) ⊎ P
-by_status status_copied P plan fault = inl refl
-by_status status_words P plan fault = absurd (plan refl)
-by_status status_refused P plan fault = inr (fault (λ e. absurd (cc)) (λ e. absurd (cc)))
-by_status status_outside P plan fault = inr (fault (λ e. absurd (cc)) (λ e. absurd (cc)))
-by_status status_unknown_type P plan fault = inr (fault (λ e. absurd (cc)) (λ e. absurd (cc)))
-by_status status_no_memory P plan fault = inr (fault (λ e. absurd (cc)) (λ e. absurd (cc)))
+-- A run of a plan copied, or had a fault.
+by_status : (status : Status) (P : Type 0) → (status ≢ status_copied → P) → (status ≡ status_copied) ⊎ P
+by_status status_copied P fault = inl refl
+by_status status_words P fault = inr (fault (λ e. absurd (cc)))
+by_status status_refused P fault = inr (fault (λ e. absurd (cc)))
+by_status status_outside P fault = inr (fault (λ e. absurd (cc)))
+by_status status_unknown_type P fault = inr (fault (λ e. absurd (cc)))
+by_status status_no_memory P fault = inr (fault (λ e. absurd (cc)))
 
 -- Where a fault came and a valid stream was there, the fault is one of the outside, or memory was missing.
 at_fault : {S K : Type 0} (status : Status) (a b : SourceState S) (before now : SinkState K) (plan : PlanData) (fault : CopyFault) (front rest : List ℕ) → missing plan ≡ None → status ≡ fault_status fault → MetFault plan fault a b before now
@@ -59,15 +58,19 @@ at_fault status a b before now plan fault front rest none is met begins valid =
 
 pub returns-clause-complete : goal.returns-clause-complete
 returns-clause-complete g c = λ plan is none valid.
-    by_status c.run-status.result _ (λ e. c.run-status.ensures.words.0 e plan is) (λ not_copied not_words.
-    let f = c.run-status.ensures.fault not_copied not_words in
-    at_fault c.run-status.result _ _ _ _ f.0 f.2 valid.front valid.rest (subst (λ (p : PlanData). missing p ≡ None) (plan_once (texts c.args.words.now) plan f.0 is f.1) none) f.3 f.5
+    by_status c.run-status.result _ (λ not_copied.
+    let f = c.run-status.ensures.fault plan is not_copied in
+    at_fault c.run-status.result _ _ _ _ plan f.0 valid.front valid.rest none f.1 f.3
     (c.new-source.ensures.left ∙ fresh _ _ _ _ c.in_ok-reader.ensures.capacity c.in_ok-reader.ensures.empty (ap (λ i. g.I.Read.remaining i.inner) c.in_ok-reader.ensures.inner ∙ valid.is))
-    (subst (λ (p : PlanData). IsValidStream p.limits p.columns valid.front) (plan_once (texts c.args.words.now) plan f.0 is f.1) valid.has))
+    valid.has)
 
 pub returns-clause-words_line : goal.returns-clause-words_line
-returns-clause-words_line g c = λ wrong first.
-    line_got _ (λ x w. (arrives g.E.Write.contents c.new-notes.result c.run-status.new.notes _ c.finish-errors.result _ (ap (λ w. writer_inner w) c.new-notes.ensures.inner ∙ c.in_ok-line.ensures.inner) (ap (λ w. writer_buffer w) c.new-notes.ensures.inner ∙ c.in_ok-line.ensures.empty) c.new-notes.ensures.flushed refl c.finish-errors.ensures (search) x w).0) (c.run-status.ensures.words_line wrong first)
+returns-clause-words_line g c = λ wrong first status.
+    line_got _ (λ x w. (arrives g.E.Write.contents c.new-notes.result c.run-status.new.notes _ c.finish-errors.result _ (ap (λ w. writer_inner w) c.new-notes.ensures.inner ∙ c.in_ok-line.ensures.inner) (ap (λ w. writer_buffer w) c.new-notes.ensures.inner ∙ c.in_ok-line.ensures.empty) c.new-notes.ensures.flushed refl c.finish-errors.ensures (search) x w).0) (c.run-status.ensures.words_line wrong first status)
+
+pub returns-clause-memory_line : goal.returns-clause-memory_line
+returns-clause-memory_line g c = λ none status.
+    line_got _ (λ x w. (arrives g.E.Write.contents c.new-notes.result c.run-status.new.notes _ c.finish-errors.result _ (ap (λ w. writer_inner w) c.new-notes.ensures.inner ∙ c.in_ok-line.ensures.inner) (ap (λ w. writer_buffer w) c.new-notes.ensures.inner ∙ c.in_ok-line.ensures.empty) c.new-notes.ensures.flushed refl c.finish-errors.ensures (search) x w).0) (c.run-status.ensures.memory_line none status)
 
 pub returns-clause-untouched : goal.returns-clause-untouched
 returns-clause-untouched g c = λ none.
@@ -88,17 +91,15 @@ returns-clause-output g c = λ copied.
     )
 
 pub returns-clause-fault : goal.returns-clause-fault
-returns-clause-fault g c = λ not_copied not_words.
-    let h = c.run-status.ensures.fault not_copied not_words in (
+returns-clause-fault g c = λ plan is not_copied.
+    let h = c.run-status.ensures.fault plan is not_copied in (
       h.0,
       h.1,
-      h.2,
-      h.3,
-      stopped_out h.0 h.2 _ _ _ _ (g.I.Read.remaining c.args.input) _ _ _ _
+      stopped_out plan h.0 _ _ _ _ (g.I.Read.remaining c.args.input) _ _ _ _
           (λ left told. c.new-source.ensures.left ∙ fresh _ _ _ left c.in_ok-reader.ensures.capacity c.in_ok-reader.ensures.empty (ap (λ i. g.I.Read.remaining i.inner) c.in_ok-reader.ensures.inner ∙ told))
           (λ x w. (arrives g.O.Write.contents c.new-sink.result c.run-status.new.sink _ c.finish-output.result _ (ap (λ w. writer_inner w) c.new-sink.ensures.inner ∙ c.in_ok-writer.ensures.inner) (ap (λ w. writer_buffer w) c.new-sink.ensures.inner ∙ c.in_ok-writer.ensures.empty) c.new-sink.ensures.flushed refl c.finish-output.ensures (search) x w).0)
-          h.5
-          (line_got _ (λ x w. (arrives g.E.Write.contents c.new-notes.result c.run-status.new.notes _ c.finish-errors.result _ (ap (λ w. writer_inner w) c.new-notes.ensures.inner ∙ c.in_ok-line.ensures.inner) (ap (λ w. writer_buffer w) c.new-notes.ensures.inner ∙ c.in_ok-line.ensures.empty) c.new-notes.ensures.flushed refl c.finish-errors.ensures (search) x w).0) h.4),
+          h.3
+          (line_got _ (λ x w. (arrives g.E.Write.contents c.new-notes.result c.run-status.new.notes _ c.finish-errors.result _ (ap (λ w. writer_inner w) c.new-notes.ensures.inner ∙ c.in_ok-line.ensures.inner) (ap (λ w. writer_buffer w) c.new-notes.ensures.inner ∙ c.in_ok-line.ensures.empty) c.new-notes.ensures.flushed refl c.finish-errors.ensures (search) x w).0) h.2),
     )
 
 pub returns-clause-unknown_type : goal.returns-clause-unknown_type

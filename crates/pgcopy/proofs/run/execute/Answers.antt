@@ -1,8 +1,10 @@
 use Rattle.std.proofs.Common.{Err, refl, ap, ◌∙◌, inr, map, string_bytes}
+use Rattle.std.proofs.lemmas.Result.{IfErr-weaker}
+use Rattle.pgcopy.specs.Words.{plan_of}
 use Rattle.std.proofs.lemmas.Bool.{false≢true}
 use Rattle.pgw_tree.specs.declared.fault.CopyFault.TheVariants.{NoMemory}
 use Rattle.pgcopy.specs.WordsRead.{plan_data}
-use Rattle.pgcopy.proofs.Told.{ok_and, status_at_fault, refused_at_fault, no_memory_met}
+use Rattle.pgcopy.proofs.Told.{ok_then, status_at_fault, refused_at_fault, no_memory_met}
 use Rattle.pgcopy.proofs.Looked.{plan_entries, no_lookup, unknown_status, unmet_status}
 use Rattle.pgcopy.proofs.run.execute.Goals as goal
 
@@ -13,7 +15,7 @@ pub returns-in-Ok-copy_plan-clause-copied : goal.returns-in-Ok-copy_plan-clause-
 returns-in-Ok-copy_plan-clause-copied g c = rw c.in-Ok.ensures.plan (λ _. (c.in-Ok-copy_plan.copied.rows, refl, c.in-Ok-copy_plan.ensures.copied))
 
 pub returns-in-Ok-clause-fault : goal.returns-in-Ok-clause-fault
-returns-in-Ok-clause-fault g c = rw c.in-Ok.ensures.plan (λ _ _. (c.in-Err.fault, refl, c.copy_plan.ensures.fault c.in-Err.fault c.in-Err.is))
+returns-in-Ok-clause-fault g c = rw c.in-Ok.ensures.plan (λ _. (c.in-Err.fault, refl, c.copy_plan.ensures.fault c.in-Err.fault c.in-Err.is))
 
 pub returns-in-Ok-clause-unread : goal.returns-in-Ok-clause-unread
 returns-in-Ok-clause-unread g c = λ status.
@@ -45,4 +47,7 @@ returns-in-Ok-clause-refused g c =
     refused_at_fault c.in-Err.fault (no_lookup (plan_data c.in-Ok.plan) c.in-Err.fault met none) met.source_failed met.sink_failed reads writes)
 
 pub returns-clause-fault : goal.returns-clause-fault
-returns-clause-fault g c = λ _ _. ok_and _ _ (c.read_words.ensures.no_memory (cc)) (λ plan. (NoMemory, refl, no_memory_met plan _ _))
+returns-clause-fault g c = ok_then (plan_of c.args.words.now) _ (λ plan _. (NoMemory, refl, no_memory_met plan _ _))
+
+pub returns-clause-bad_word : goal.returns-clause-bad_word
+returns-clause-bad_word g c = IfErr-weaker (plan_of c.args.words.now) _ _ (λ wrong of_column. inr (refl, of_column)) (c.read_words.ensures.no_memory (cc))
