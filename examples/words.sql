@@ -3,7 +3,8 @@
 --
 --     psql -X -At -v table=NAME -f examples/words.sql
 --
--- A column of a type that pgcopy does not copy has that type's name, at which pgcopy says that it is none.
+-- They are the words for COPY NAME TO, which leaves out generated columns. A column of a type that pgcopy does not copy
+-- has that type's name, at which pgcopy says that it is none.
 WITH RECURSIVE
     -- each type, and the type whose values its own are sent as: of a domain that is the one that it stands on
     sent (type, base) AS (
@@ -12,7 +13,7 @@ WITH RECURSIVE
         SELECT d.oid, s.base FROM pg_type d JOIN sent s ON s.type = d.typbasetype WHERE d.typtype = 'd'
     ),
     kinds AS (
-        SELECT t.oid AS type, n.nspname || '.' || t.typname AS key, t.typarray AS array_type, t.typnotnull AS not_null,
+        SELECT t.oid AS type, n.nspname || '.' || t.typname AS key, t.typarray AS array_type,
             n.nspname <> 'pg_catalog' AS is_own, b.typelem AS element, b.typrelid AS relation,
             CASE m.nspname WHEN 'pg_catalog' THEN b.typname ELSE m.nspname || '.' || b.typname END AS name,
             CASE
@@ -46,10 +47,12 @@ WITH RECURSIVE
     ),
     -- the same, by what stands in front of the types in each and behind them
     texts AS (
-        SELECT path, is_next, may_be_null AND NOT not_null AS may_be_null, type, key, array_type, kind, name,
-            is_inside AND (kind = 'record' OR kind = 'text' AND key <> 'pg_catalog.text') AS needs_oid,
-            kind = 'record' OR kind = 'text' AND (is_own OR is_inside AND key <> 'pg_catalog.text') AS has_key
-        FROM types JOIN kinds USING (type)
+        SELECT path, is_next, may_be_null, type, key, array_type, kind, name,
+            is_key AND is_inside AND (kind = 'record' OR kind = 'text' AND key <> 'pg_catalog.text') AS needs_oid,
+            is_key AND (kind = 'record' OR kind = 'text' AND (is_own OR is_inside AND key <> 'pg_catalog.text')) AS has_key
+        FROM types JOIN kinds USING (type) CROSS JOIN LATERAL (
+            SELECT key ~ '^[A-Za-z0-9_]+[.][A-Za-z0-9_]+$' AS is_key
+        ) names
     ),
     parts (path, text) AS (
         SELECT path || 0, CASE WHEN is_next THEN ',' ELSE '' END || CASE WHEN has_key THEN '@' || key || ':' ELSE '' END
